@@ -1,2 +1,5 @@
 pub mod Counts
 pub mod Marks
+pub mod Plans
+pub mod Memory
+pub mod Views

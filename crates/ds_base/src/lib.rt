@@ -4,18 +4,23 @@
 //! members what contracts may know of an object, and counts its faults; a call fails only where that count rose.
 #![tactic(auto)]
 
+mod calm_source;
 mod clock;
 mod failed;
+mod fault_plan;
 mod gate;
 mod keeper;
+mod mem_source;
 mod sink;
 mod source;
 mod wire;
 
+pub use calm_source::CalmSource;
 pub use clock::Clock;
 pub use failed::Failed;
 pub use gate::Gate;
 pub use keeper::Keeper;
+pub use mem_source::MemSource;
 pub use sink::Sink;
 pub use source::Source;
 pub use wire::Wire;
