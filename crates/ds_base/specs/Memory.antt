@@ -1,5 +1,5 @@
 -- The objects in memory, as contracts see them.
-use Rattle.std.specs.Prelude.{ℕ, List}
+use Rattle.std.specs.Prelude.{ℕ, List, Bool}
 use Rattle.ds_base.specs.Plans.{Plan}
 
 -- a source: the bytes that are left, the count of ends, and the plan of its faults
@@ -12,3 +12,13 @@ pub record Supply : Type 0 where
 pub record CalmSupply : Type 0 where
   pub left : List ℕ
   pub ends : ℕ
+
+-- a sink: the bytes written so far, how many a call takes at most, and the plan of its faults
+pub record Output : Type 0 where
+  pub written : List ℕ
+  pub piece : ℕ
+  pub plan : Plan
+
+-- a keeper that never fails: a raise was made
+pub record CalmMarks : Type 0 where
+  pub raised : Bool

@@ -1,10 +1,12 @@
 -- What contracts see of the fields of the objects in memory.
 use Rattle.std.specs.Prelude.{ℕ, ◌≤◌, drop, vec_len}
 use Rattle.ds_base.specs.Plans.{Plan}
-use Rattle.ds_base.specs.Memory.{Supply, CalmSupply}
+use Rattle.ds_base.specs.Memory.{Supply, CalmSupply, Output, CalmMarks}
 use Rattle.ds_base.specs.declared.fault_plan.FaultPlan.TheInside.{Inside as PlanFields}
 use Rattle.ds_base.specs.declared.calm_source.CalmSource.TheInside.{Inside as CalmSourceFields}
 use Rattle.ds_base.specs.declared.mem_source.MemSource.TheInside.{Inside as MemSourceFields}
+use Rattle.ds_base.specs.declared.mem_sink.MemSink.TheInside.{Inside as MemSinkFields}
+use Rattle.ds_base.specs.declared.calm_keeper.CalmKeeper.TheInside.{Inside as CalmKeeperFields}
 
 abbrev pub plan_seen : PlanFields → Plan
 plan_seen p = record { failing = p.failing.items; made = p.made; faults = p.faults }
@@ -14,3 +16,9 @@ calm_supply_of s = record { left = drop s.at s.bytes.items; ends = s.ends }
 
 abbrev pub supply_of : MemSourceFields → Supply
 supply_of s = record { left = s.inner.left; ends = s.inner.ends; plan = s.plan }
+
+abbrev pub output_of : MemSinkFields → Output
+output_of s = record { written = s.written.items; piece = s.piece; plan = s.plan }
+
+abbrev pub calm_marks_of : CalmKeeperFields → CalmMarks
+calm_marks_of k = record { raised = k.raised }

@@ -1,7 +1,7 @@
 //! A source in memory that never fails.
 #![tactic(auto)]
 
-ghost use Rattle.std.specs.Prelude.{◌≡◌, ◌<◌, ◌≤◌, ◌++◌, Some, length, take, min, IfOk, IsOk, if◌then◌else◌, ◌==◌};
+ghost use Rattle.std.specs.Prelude.{◌≡◌, ◌<◌, ◌≤◌, ◌++◌, Some, length, take, min, IfOk, if◌then◌else◌, ◌==◌};
 ghost use Rattle.ds_base.specs.Counts.{Rose, Took};
 ghost use Rattle.ds_base.specs.Plans.{one_more};
 
@@ -66,8 +66,7 @@ impl Source for CalmSource {
 
     fn take(&mut self, room: &mut [u8]) -> Result<usize, Failed>
         requires { 0 < length room.old }
-        ensures never { IsOk result }
-        ensures full { IfOk result (λ n. n ≡ min (length room.old) (length self.old.left)) }
+        ensures full { result ≡ Ok (min (length room.old) (length self.old.left)) }
         ensures ok { IfOk result (λ n. Took (Some self.old.left) (Some self.new.left) (length room.old) room.new n (Rose self.old.ends self.new.ends)) }
         ensures ends { IfOk result (λ n. self.new.ends ≡ (if n == 0 then one_more self.old.ends else self.old.ends)) }
     {
