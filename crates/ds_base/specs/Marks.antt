@@ -1,5 +1,5 @@
 -- The marks that a keeper tells: the number of every name, 0 where none was kept.
-use Rattle.std.specs.Prelude.{◌≡◌, ◌≢◌, ◌⊎◌, ℕ, max, List, Option, Some, None}
+use Rattle.std.specs.Prelude.{◌≡◌, ◌≢◌, ◌⊎◌, ℕ, max, List, [], ◌∷◌, bytes_eq, if◌then◌else◌, Option, Some, None}
 
 -- where the marks are told, n is the one of that name
 abbrev pub IsMark : Option (List ℕ → ℕ) → List ℕ → ℕ → Type 0
@@ -21,3 +21,8 @@ abbrev pub MayBeRaised : Option (List ℕ → ℕ) → List ℕ → ℕ → Opti
 MayBeRaised None name to new = new ≡ None
 MayBeRaised (Some old) name to None = Unit {0}
 MayBeRaised (Some old) name to (Some new) = ((new name ≡ old name) ⊎ (new name ≡ max (old name) to)) × KeepsOthers old name new
+
+-- the mark of a name in a list of names and marks, 0 where the name isn't there
+abbrev pub mark_of : List (List ℕ × ℕ) → List ℕ → ℕ
+mark_of [] name = 0
+mark_of (kept ∷ rest) name = if bytes_eq kept.0 name then kept.1 else mark_of rest name

@@ -22,3 +22,15 @@ pub record Output : Type 0 where
 -- a keeper that never fails: a raise was made
 pub record CalmMarks : Type 0 where
   pub raised : Bool
+
+-- a keeper: the names and their marks, the failing raises that keep the new number, and the plan of its faults
+pub record Marks : Type 0 where
+  pub marks : List (List ℕ × ℕ)
+  pub keeping : List ℕ
+  pub plan : Plan
+
+-- a wire: the connections that are left to accept and to make, and the plan of its faults
+pub record Connections (I O : Type 0) : Type 0 where
+  pub accepts : List I
+  pub connects : List O
+  pub plan : Plan
