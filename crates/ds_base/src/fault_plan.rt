@@ -49,6 +49,13 @@ impl FaultPlan {
         Ok(())
     }
 
+    /// How many calls were made: the number of the last one.
+    pub(crate) fn made(&self) -> u64
+        ensures { result ≡ self.now.made }
+    {
+        self.made
+    }
+
     /// Counts a fault that was not planned, as want of memory.
     pub(crate) fn add_fault(&mut self)
         ensures { self.new ≡ record self.old { faults = one_more self.old.faults } }
