@@ -1,0 +1,4 @@
+pub mod Reading
+pub mod Document
+pub mod Views
+pub mod Outside
