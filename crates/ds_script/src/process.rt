@@ -1,14 +1,17 @@
 //! A process.
 
-ghost use Rattle.std.specs.Prelude.{◌≡◌, ◌<◌, ◌≤◌, ◌↔◌, length, IfOk, OnOk, OnErr, IfSome, IsTrue, Ok, Some, None, false, option_copied, slice_get, if◌then◌else◌};
+ghost use Rattle.std.specs.Prelude.{◌≡◌, ◌+◌, ◌^◌, ◌<◌, ◌≤◌, ◌↔◌, length, IfOk, OnOk, OnErr, IfSome, IsErrOf, IsTrue, vec_len, vec_capacity, Ok, Some, None, false, option_copied, slice_get, if◌then◌else◌};
 ghost use Rattle.ds_script.specs.Inner.{inner, register};
 ghost use Rattle.ds_script.specs.Fits.{IsOp, IsScript};
+ghost use Rattle.ds_script.specs.Names.{with_name, is_named as is_named_in};
+ghost use Rattle.ds_label.specs.Flow.{with_member};
+ghost use Rattle.ds_label.specs.Numbers.{by_number};
 
 use crate::course::CourseState;
 use crate::note::Note;
 use crate::op::{Op, OpList};
 use crate::usable::{Usable, UsableList};
-use ds_label::LocalLabel;
+use ds_label::{Category, LabelFault, LocalLabel};
 use ds_wire::Bytes;
 use std::alloc::{AllocError, Global};
 use std::marker::Model;
@@ -44,7 +47,7 @@ impl Model for Proc {
 }
 
 impl Proc {
-    ghost use Rattle.ds_script.specs.Process.{fresh, finished_process};
+    ghost use Rattle.ds_script.specs.Process.{fresh, finished_process, made_process};
 
     /// A process at its script's first operation, with empty registers and no note. Takes no memory. It needs a script of at
     /// most 4,096 operations with registers below 8, texts of at most 16,384 bytes, places not past the script's end and,
@@ -195,4 +198,47 @@ impl Proc {
         self.clear_room.clear();
         self.clear_room.reserve(64)
     }
+
+    /// The end of an operation that isn't run inside the process: its note, what it loads into a register, and the next
+    /// place. What was mapped joins the usable names unless its category is among them. It needs room, a process that
+    /// hasn't ended, and for what is loaded a register below 8 and at most 16,384 bytes. Takes no memory.
+    pub fn finish(&mut self, note: Option<Note>, load: Option<(u8, Bytes)>)
+        requires room { 0 < self.old.room }
+        requires going { self.old.process.course.place < length self.old.process.script }
+        requires fits { IfSome load (λ l. (l.0 < 8) × (length l.1 ≤ 16384)) }
+        ensures process { self.new.process ≡ finished_process note load self.old.process }
+        ensures spare { self.new.spare ≡ self.old.spare }
+    {
+        if let Some(Note::Mapped { category, local }) = &note {
+            join_names(&mut self.names, *category, *local);
+        }
+        self.course.finish(note, load);
+    }
+
+    /// The label becomes this one. Takes no memory.
+    pub fn put_label(&mut self, label: LocalLabel)
+        ensures process { self.new.process ≡ record self.old.process { label = label } }
+        ensures room { self.new.room ≡ self.old.room }
+        ensures spare { self.new.spare ≡ self.old.spare }
+    {
+        self.label = label;
+    }
+}
+
+/// The category and its number join the names, for which there is room, unless the category is among them.
+fn join_names(names: &mut Vec<Usable>, category: Category, local: u64)
+    requires { vec_len names.old < vec_capacity names.old }
+    ensures names { names.new.items ≡ with_name category local names.old.items }
+    ensures capacity { vec_capacity names.new ≡ vec_capacity names.old }
+{
+    if !is_named(names.as_slice(), &category) {
+        names.push_reserved(Usable { category, local });
+    }
+}
+
+/// Whether the category is among the names.
+fn is_named(names: &[Usable], category: &Category) -> bool
+    ensures { result ≡ is_named_in category.now names.now }
+{
+    names.iter().any(|name| name.category == *category)
 }

@@ -1,10 +1,11 @@
-ghost use Rattle.std.specs.Prelude.{◌≡◌, ◌==◌, ◌<◌, ◌≤◌, ◌^◌, ◌-◌, length, map, List, codes, Some, None, IfOk, ℕ, true, [], option_map};
+ghost use Rattle.std.specs.Prelude.{◌≡◌, ◌==◌, ◌<◌, ◌≤◌, ◌^◌, ◌-◌, length, map, List, codes, Some, None, IfOk, IfSome, All, ℕ, true, [], option_map};
 ghost use Rattle.std.specs.List.{list_all, list_any};
+ghost use Rattle.ds_script.specs.Fits.{IsScript};
 ghost use Rattle.serde_json.specs.View.{view};
 ghost use Rattle.serde_json.specs.Find.{get};
 ghost use Rattle.dstar.specs.Reading.{Gives, each, optional, nothing_in, number_in};
 ghost use Rattle.dstar.specs.Document.{few_in, box_in, boxes_in, scripts_in, script_in, name_in, seed_in, is_name_byte, is_hex_digit, host_in, hosts_of, document_in, slots_differ};
-ghost use Rattle.dstar.specs.Views.{host_view, document_view};
+ghost use Rattle.dstar.specs.Views.{host_view, document_view, IsFit};
 
 use crate::document::operations::{script, slot};
 use crate::document::reading::{list, member, nothing, number, object, text};
@@ -105,6 +106,7 @@ fn boxes(alloc: Global, value: &Value, count: u32) -> Result<Vec<BoxSpec>, Refus
 }
 
 fn processes(alloc: Global, name: &[u8], values: &[Value]) -> Result<Vec<OpList>, Refusal>
+    ensures fits { IfOk result (λ v. All IsScript v.items) }
     ensures count { IfOk result (λ v. length v.items ≡ length values.now) }
     ensures given { Gives (λ v. v.items) result (each (script_in name.now) (map view values.now)) }
 {
@@ -117,6 +119,7 @@ fn processes(alloc: Global, name: &[u8], values: &[Value]) -> Result<Vec<OpList>
 
 #[tactic(auto, unfolding(crate::specs::Document::scripts_in))]
 fn scripts(alloc: Global, name: &[u8], value: &Value) -> Result<Vec<OpList>, Refusal>
+    ensures fits { IfOk result (λ v. All IsScript v.items) }
     ensures few { IfOk result (λ v. length v.items ≤ 32) }
     ensures given { Gives (λ v. v.items) result (scripts_in name.now (view value.now)) }
 {
@@ -170,6 +173,7 @@ fn seed(value: &Value) -> Result<bool, Refusal>
 }
 
 fn own_scripts(alloc: Global, name: &[u8], host: &Value) -> Result<Vec<OpList>, Refusal>
+    ensures fits { IfOk result (λ v. All IsScript v.items) }
     ensures few { IfOk result (λ v. length v.items ≤ 32) }
     ensures given { Gives (λ v. v.items) result (optional [] (scripts_in name.now) (get (codes "procs") (view host.now))) }
 {
@@ -190,7 +194,8 @@ fn own_boxes(alloc: Global, host: &Value, count: u32) -> Result<Vec<BoxSpec>, Re
 
 #[tactic(auto, unfolding(crate::specs::Document::host_in))]
 fn host(alloc: Global, value: &Value) -> Result<HostSpec, Refusal>
-    ensures { Gives host_view result (host_in (view value.now)) }
+    ensures fits { IfOk result IsFit }
+    ensures given { Gives host_view result (host_in (view value.now)) }
 {
     let fields = object(value, &["name", "seed", "procs", "boxes"])?;
     let name = name(member(fields, "name")?)?;
@@ -205,7 +210,8 @@ fn host(alloc: Global, value: &Value) -> Result<HostSpec, Refusal>
 }
 
 fn only_host(alloc: Global, values: &[Value]) -> Result<Option<HostSpec>, Refusal>
-    ensures { Gives (option_map host_view) result (hosts_of (map view values.now)) }
+    ensures fits { IfOk result (λ o. IfSome o IsFit) }
+    ensures given { Gives (option_map host_view) result (hosts_of (map view values.now)) }
 {
     match values {
         [] => Ok(None),
@@ -227,7 +233,8 @@ fn budget(fields: &Value) -> Result<u64, Refusal>
 /// The document that a JSON value is.
 #[tactic(auto, unfolding(crate::specs::Document::document_in))]
 pub(crate) fn document(alloc: Global, value: &Value) -> Result<DocumentSpec, Refusal>
-    ensures { Gives document_view result (document_in (view value.now)) }
+    ensures fits { IfOk result (λ d. IfSome d.host IsFit) }
+    ensures given { Gives document_view result (document_in (view value.now)) }
 {
     let fields = object(value, &["version", "hosts", "budget"])?;
     number(member(fields, "version")?, 1, 1)?;

@@ -1,4 +1,5 @@
-ghost use Rattle.std.specs.Prelude.{◌≡◌, ◌<◌, ◌≤◌, ◌^◌, length, map, List, codes, Some, None, IfOk, ℕ, ◌-◌, true};
+ghost use Rattle.std.specs.Prelude.{◌≡◌, ◌<◌, ◌≤◌, ◌^◌, length, map, List, codes, Some, None, IfOk, All, ℕ, ◌-◌, true};
+ghost use Rattle.ds_script.specs.Fits.{IsOp, IsScript};
 ghost use Rattle.serde_json.specs.View.{view};
 ghost use Rattle.serde_json.specs.Find.{as_str};
 ghost use Rattle.dstar.specs.Reading.{Gives, number_in, each};
@@ -30,7 +31,8 @@ fn register(value: &Value) -> Result<u8, Refusal>
 }
 
 fn set(alloc: Global, arguments: &[Value]) -> Result<Op, Refusal>
-    ensures { Gives (λ o. o) result (set_of (map view arguments.now)) }
+    ensures fits { (size : ℕ) → IfOk result (IsOp size) }
+    ensures given { Gives (λ o. o) result (set_of (map view arguments.now)) }
 {
     let [reg, text] = arguments else {
         return Err(Refusal::NotADocument);
@@ -44,7 +46,8 @@ fn set(alloc: Global, arguments: &[Value]) -> Result<Op, Refusal>
 }
 
 fn join(arguments: &[Value]) -> Result<Op, Refusal>
-    ensures { Gives (λ o. o) result (join_of (map view arguments.now)) }
+    ensures fits { (size : ℕ) → IfOk result (IsOp size) }
+    ensures given { Gives (λ o. o) result (join_of (map view arguments.now)) }
 {
     let [reg, left, right] = arguments else {
         return Err(Refusal::NotADocument);
@@ -56,10 +59,11 @@ fn join(arguments: &[Value]) -> Result<Op, Refusal>
 }
 
 /// A place of a script of so many operations, its end among them.
-fn place(value: &Value, length: u32) -> Result<u32, Refusal>
-    ensures { Gives (λ n. n) result (number_in 0 length (view value.now)) }
+fn place(value: &Value, size: u32) -> Result<u32, Refusal>
+    ensures within { IfOk result (λ n. n ≤ size) }
+    ensures given { Gives (λ n. n) result (number_in 0 size (view value.now)) }
 {
-    let to = number(value, 0, u64::from(length))?;
+    let to = number(value, 0, u64::from(size))?;
     Ok(to as u32)
 }
 
@@ -70,30 +74,33 @@ pub(crate) fn slot(value: &Value) -> Result<u32, Refusal>
     Ok(number as u32)
 }
 
-fn if_equal(length: u32, arguments: &[Value]) -> Result<Op, Refusal>
-    ensures { (name : List ℕ) → Gives (λ o. o) result (ifeq_of (record { name = name; length = length }) (map view arguments.now)) }
+fn if_equal(size: u32, arguments: &[Value]) -> Result<Op, Refusal>
+    ensures fits { IfOk result (IsOp size) }
+    ensures given { (name : List ℕ) → Gives (λ o. o) result (ifeq_of (record { name = name; length = size }) (map view arguments.now)) }
 {
     let [left, right, to] = arguments else {
         return Err(Refusal::NotADocument);
     };
     let left = register(left)?;
     let right = register(right)?;
-    let to = place(to, length)?;
+    let to = place(to, size)?;
     Ok(Op::IfEq { left, right, to })
 }
 
-fn jump(length: u32, arguments: &[Value]) -> Result<Op, Refusal>
-    ensures { (name : List ℕ) → Gives (λ o. o) result (jump_of (record { name = name; length = length }) (map view arguments.now)) }
+fn jump(size: u32, arguments: &[Value]) -> Result<Op, Refusal>
+    ensures fits { IfOk result (IsOp size) }
+    ensures given { (name : List ℕ) → Gives (λ o. o) result (jump_of (record { name = name; length = size }) (map view arguments.now)) }
 {
     let [to] = arguments else {
         return Err(Refusal::NotADocument);
     };
-    let to = place(to, length)?;
+    let to = place(to, size)?;
     Ok(Op::Jump { to })
 }
 
 fn print(arguments: &[Value]) -> Result<Op, Refusal>
-    ensures { Gives (λ o. o) result (print_of (map view arguments.now)) }
+    ensures fits { (size : ℕ) → IfOk result (IsOp size) }
+    ensures given { Gives (λ o. o) result (print_of (map view arguments.now)) }
 {
     let [reg] = arguments else {
         return Err(Refusal::NotADocument);
@@ -103,7 +110,8 @@ fn print(arguments: &[Value]) -> Result<Op, Refusal>
 }
 
 fn take(arguments: &[Value]) -> Result<Op, Refusal>
-    ensures { Gives (λ o. o) result (take_of (map view arguments.now)) }
+    ensures fits { (size : ℕ) → IfOk result (IsOp size) }
+    ensures given { Gives (λ o. o) result (take_of (map view arguments.now)) }
 {
     let [reg, from] = arguments else {
         return Err(Refusal::NotADocument);
@@ -125,7 +133,8 @@ fn own_name(name: &[u8], value: &Value) -> Result<bool, Refusal>
 }
 
 fn send(alloc: Global, name: &[u8], arguments: &[Value]) -> Result<Op, Refusal>
-    ensures { (length : ℕ) → Gives (λ o. o) result (send_of (record { name = name.now; length = length }) (map view arguments.now)) }
+    ensures fits { (size : ℕ) → IfOk result (IsOp size) }
+    ensures given { (size : ℕ) → Gives (λ o. o) result (send_of (record { name = name.now; length = size }) (map view arguments.now)) }
 {
     let [host, to, reg, label, own, clear] = arguments else {
         return Err(Refusal::NotADocument);
@@ -150,20 +159,21 @@ fn send(alloc: Global, name: &[u8], arguments: &[Value]) -> Result<Op, Refusal>
 fn worded(
     alloc: Global,
     name: &[u8],
-    length: u32,
+    size: u32,
     word: &str,
     arguments: &[Value],
 ) -> Result<Op, Refusal>
-    ensures { Gives (λ o. o) result (worded (record { name = name.now; length = length }) word.now (map view arguments.now)) }
+    ensures fits { IfOk result (IsOp size) }
+    ensures given { Gives (λ o. o) result (worded (record { name = name.now; length = size }) word.now (map view arguments.now)) }
 {
     if word == "set" {
         set(alloc, arguments)
     } else if word == "join" {
         join(arguments)
     } else if word == "ifeq" {
-        if_equal(length, arguments)
+        if_equal(size, arguments)
     } else if word == "jump" {
-        jump(length, arguments)
+        jump(size, arguments)
     } else if word == "print" {
         print(arguments)
     } else if word == "take" {
@@ -176,22 +186,25 @@ fn worded(
 }
 
 #[tactic(auto, unfolding(crate::specs::Document::operation_in))]
-fn operation(alloc: Global, name: &[u8], length: u32, value: &Value) -> Result<Op, Refusal>
-    ensures { Gives (λ o. o) result (operation_in (record { name = name.now; length = length }) (view value.now)) }
+fn operation(alloc: Global, name: &[u8], size: u32, value: &Value) -> Result<Op, Refusal>
+    ensures fits { IfOk result (IsOp size) }
+    ensures given { Gives (λ o. o) result (operation_in (record { name = name.now; length = size }) (view value.now)) }
 {
     let [word, arguments @ ..] = list(value)? else {
         return Err(Refusal::NotADocument);
     };
     let word = text(word)?;
-    worded(alloc, name, length, word, arguments)
+    worded(alloc, name, size, word, arguments)
 }
 
-fn operations(alloc: Global, name: &[u8], length: u32, values: &[Value]) -> Result<OpList, Refusal>
-    ensures { Gives (λ v. v) result (each (operation_in (record { name = name.now; length = length })) (map view values.now)) }
+fn operations(alloc: Global, name: &[u8], size: u32, values: &[Value]) -> Result<OpList, Refusal>
+    ensures size { IfOk result (λ v. length v ≡ length values.now) }
+    ensures fits { IfOk result (All (IsOp size)) }
+    ensures given { Gives (λ v. v) result (each (operation_in (record { name = name.now; length = size })) (map view values.now)) }
 {
     let mut script = OpList::new(alloc);
     for value in values {
-        script.push(operation(alloc, name, length, value)?)?;
+        script.push(operation(alloc, name, size, value)?)?;
     }
     Ok(script)
 }
@@ -199,7 +212,8 @@ fn operations(alloc: Global, name: &[u8], length: u32, values: &[Value]) -> Resu
 /// A process: its script alone.
 #[tactic(auto, unfolding(crate::specs::Document::script_in))]
 pub(crate) fn script(alloc: Global, name: &[u8], value: &Value) -> Result<OpList, Refusal>
-    ensures { Gives (λ v. v) result (script_in name.now (view value.now)) }
+    ensures fits { IfOk result IsScript }
+    ensures given { Gives (λ v. v) result (script_in name.now (view value.now)) }
 {
     let process = object(value, &["script"])?;
     let values = list(member(process, "script")?)?;
