@@ -1,2 +1,3 @@
 pub mod Namings
 pub mod Members
+pub mod Derived

@@ -1,9 +1,9 @@
 -- Labels as sets of categories of any kind: the names that hosts exchange, or a host's own numbers.
 use Rattle.std.specs.Prelude.{Bool, List, [], ◌∷◌, ◌++◌, ◌||◌, ◌&&◌, not, filter}
+use Rattle.std.specs.List.{list_any, list_all}
 use Rattle.std.specs.declared.cmp.Ordering.{Ordering}
 use Rattle.std.specs.declared.cmp.Ordering.TheVariants.{Less, Equal, Greater}
 use Rattle.std.specs.List.Sorted.{IsStrictlySortedBy}
-use Rattle.ds_label.specs.Lists.{any, all}
 
 -- how categories of a kind are told apart, which of them are for secrecy (the others are for integrity), and their order
 pub record Naming (C : Type 0) : Type 0 where
@@ -13,18 +13,18 @@ pub record Naming (C : Type 0) : Type 0 where
 
 -- whether a category is a member
 abbrev pub has : {C : Type 0} → Naming C → C → List C → Bool
-has naming c members = any (naming.same c) members
+has naming c members = list_any (naming.same c) members
 
 -- The first flows to the second under an ownership: each secrecy category of the first that isn't owned is in the second,
 -- and each integrity category of the second that isn't owned is in the first.
 unfoldable pub flows : {C : Type 0} → Naming C → List C → List C → List C → Bool
 flows naming first second owned =
-    all (λ c. not (naming.secret c) || (has naming c second || has naming c owned)) first
-    && all (λ c. naming.secret c || (has naming c first || has naming c owned)) second
+    list_all (λ c. not (naming.secret c) || (has naming c second || has naming c owned)) first
+    && list_all (λ c. naming.secret c || (has naming c first || has naming c owned)) second
 
 -- whether both have the same members
 unfoldable pub same_label : {C : Type 0} → Naming C → List C → List C → Bool
-same_label naming first second = all (λ c. has naming c second) first && all (λ c. has naming c first) second
+same_label naming first second = list_all (λ c. has naming c second) first && list_all (λ c. has naming c first) second
 
 -- the members of the first that aren't in the second
 unfoldable pub minus : {C : Type 0} → Naming C → List C → List C → List C

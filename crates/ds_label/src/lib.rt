@@ -6,6 +6,7 @@ mod fault;
 mod label;
 mod local_label;
 mod rule;
+mod search;
 
 pub use category::{Category, Kind, PubKey};
 pub use fault::LabelFault;
