@@ -1,5 +1,5 @@
 -- Labels as sets of categories of any kind: the names that hosts exchange, or a host's own numbers.
-use Rattle.std.specs.Prelude.{Bool, List, [], ◌∷◌, ◌++◌, ◌||◌, ◌&&◌, not, filter}
+use Rattle.std.specs.Prelude.{◌≡◌, Bool, true, false, ◌⊎◌, Contains, List, [], ◌∷◌, ◌||◌, ◌&&◌, not, filter}
 use Rattle.std.specs.List.{list_any, list_all}
 use Rattle.std.specs.declared.cmp.Ordering.{Ordering}
 use Rattle.std.specs.declared.cmp.Ordering.TheVariants.{Less, Equal, Greater}
@@ -21,6 +21,11 @@ unfoldable pub flows : {C : Type 0} → Naming C → List C → List C → List 
 flows naming first second owned =
     list_all (λ c. not (naming.secret c) || (has naming c second || has naming c owned)) first
     && list_all (λ c. naming.secret c || (has naming c first || has naming c owned)) second
+
+-- the same as facts of each category
+pub record Flows {C : Type 0} (naming : Naming C) (first second owned : List C) : Type 0 where
+  pub carries : (c : C) → naming.secret c ≡ true → Contains first c → Contains second c ⊎ Contains owned c
+  pub claims : (c : C) → naming.secret c ≡ false → Contains second c → Contains first c ⊎ Contains owned c
 
 -- whether both have the same members
 unfoldable pub same_label : {C : Type 0} → Naming C → List C → List C → Bool

@@ -1,5 +1,4 @@
 use Rattle.std.proofs.Common.{refl}
-use Rattle.std.specs.Ordering.{nat_cmp}
 use Rattle.ds_label.specs.Numbers.{by_number}
 use Rattle.ds_label.proofs.Namings.{numbers}
 use Rattle.ds_label.proofs.Members.{searched}

@@ -1,6 +1,6 @@
-use Rattle.std.proofs.Common.{◌≡◌, ◌≤◌, length, arith, subst, sym, ap, refl, ◌∙◌}
-use Rattle.std.specs.Prelude.{not, filter}
-use Rattle.ds_label.specs.Flow.{has, minus, IsRising}
+use Rattle.std.proofs.Common.{refl}
+use Rattle.std.specs.Prelude.{not}
+use Rattle.ds_label.specs.Flow.{has, minus}
 use Rattle.ds_label.specs.Names.{by_name}
 use Rattle.ds_label.proofs.Namings.{names}
 use Rattle.ds_label.proofs.Members.{kept}
