@@ -129,6 +129,8 @@ impl LocalLabel {
         requires { 64 ≤ vec_capacity room.old }
         ensures fits { result ≡ nat_le (length (union by_number self.now other.now)) 64 }
         ensures union { OnTrue result (room.new.items ≡ union by_number self.now other.now) }
+        ensures rising { OnTrue result (IsRising by_number room.new.items) }
+        ensures limit { OnTrue result (length room.new.items ≤ 64) }
     {
         united(self.members.as_slice(), other.members.as_slice(), room)
     }
@@ -169,6 +171,8 @@ fn united(first: &[u64], second: &[u64], room: &mut Vec<u64>) -> bool
     requires room { 64 ≤ vec_capacity room.old }
     ensures fits { result ≡ nat_le (length (union by_number first.now second.now)) 64 }
     ensures union { OnTrue result (room.new.items ≡ union by_number first.now second.now) }
+    ensures rising { OnTrue result (IsRising by_number room.new.items) }
+    ensures limit { OnTrue result (length room.new.items ≤ 64) }
 {
     room.clear();
     room.extend_from_slice(first).unwrap();
