@@ -3,7 +3,7 @@ use Rattle.std.proofs.Common.{◌≡◌, ℕ, zero, suc, ◌<◌, length, Bool, 
 use Rattle.std.specs.Prelude.{◌⊎◌, map, Contains, slice_index_or}
 use Rattle.std.specs.List.{list_all, AllByRecursion}
 use Rattle.std.specs.Bool.{Decides}
-use Rattle.ds_label.specs.Flow.{Naming, has, flows, Flows, same_label, minus, union}
+use Rattle.ds_label.specs.Flow.{Naming, has, flows, Flows, same_label, minus, union, with_member}
 use Rattle.ds_label.proofs.Namings.{IsNaming}
 use Rattle.ds_label.proofs.Members.{same-is, has-with_member}
 
@@ -86,13 +86,18 @@ module _ {C : Type 0} (naming : Naming C) (is : IsNaming naming) where
   same_label-refl members = and_both _ _ (all_from_has (λ x. has naming x members) members (λ c h. h)) (all_from_has (λ x. has naming x members) members (λ c h. h))
 
   -- one is a member of a union where it is a member of either
-  pub has-union : (c : C) (first second : List C) → has naming c (union naming first second) ≡ (has naming c second || has naming c first)
+  pub has-union : (c : C) (first second : List C) → has naming c (union naming first second) ≡ (has naming c first || has naming c second)
   unfolding union
-  has-union c first [] = refl
-  has-union c first (x ∷ second) = has-with_member naming is c x (union naming first second) ∙ ap (λ b. naming.same c x || b) (has-union c first second) ∙ regroup (naming.same c x) (has naming c second) (has naming c first)
+  has-union c first [] = or_false (has naming c first)
     where
-      regroup : (a b d : Bool) → (a || (b || d)) ≡ ((a || b) || d)
-      regroup true b d = refl
+      or_false : (a : Bool) → a ≡ (a || false)
+      or_false true = refl
+      or_false false = refl
+  has-union c first (x ∷ second) = has-union c (with_member naming x first) second ∙ ap (λ b. b || has naming c second) (has-with_member naming is c x first) ∙ regroup (naming.same c x) (has naming c first) (has naming c second)
+    where
+      regroup : (a b d : Bool) → ((a || b) || d) ≡ (b || (a || d))
+      regroup true true d = refl
+      regroup true false d = refl
       regroup false b d = refl
 
   -- and of a difference where it is a member of the first and not of the second

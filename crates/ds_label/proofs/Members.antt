@@ -1,17 +1,18 @@
 -- Members of rising lists.
-use Rattle.std.proofs.Common.{◌≡◌, ℕ, zero, suc, ◌≤◌, ◌<◌, Bool, true, false, ◌&&◌, ◌||◌, cond, List, [], ◌∷◌, length, take, drop, get_or, refl, sym, ap, ◌∙◌, subst, arith, length-append, length-drop}
+use Rattle.std.proofs.Common.{◌≡◌, ℕ, zero, suc, ◌≤◌, ◌<◌, Bool, true, false, ◌&&◌, ◌||◌, cond, List, [], ◌∷◌, length, take, drop, get_or, refl, sym, ap, ◌∙◌, subst, arith, length-append, length-drop, add-one, drop-cons, ◌+◌}
 use Rattle.std.proofs.lemmas.List.{length-take}
 use Rattle.std.proofs.lemmas.List.Kept.{IsStrictlySortedBy-filter}
-use Rattle.std.specs.Prelude.{Result, Ok, Err}
+use Rattle.std.specs.Prelude.{Result, Ok, Err, Some}
 use Rattle.std.specs.Bool.{Decides}
+use Rattle.std.specs.Result.{result_err}
 use Rattle.std.specs.declared.cmp.Ordering.{Ordering}
 use Rattle.std.specs.declared.cmp.Ordering.TheVariants.{Less, Equal, Greater}
 use Rattle.std.specs.Ordering.{is_eq, ordering_index, ordering_reverse}
 use Rattle.std.specs.Cmp.{IsTotalOrder, Equal-is, tied_itself}
 use Rattle.std.specs.List.{list_any, list_all, insert, AllByRecursion, AllWithin, HoldsAt, filter}
 use Rattle.std.specs.List.Sorted.{IsStrictlySortedBy, IsNonDecreasingBy, IsBinarySearchResult, IsSearchInRange}
-use Rattle.ds_label.specs.Flow.{Naming, has, placed, with_member, IsRising}
-use Rattle.ds_label.specs.Search.{IsPlace}
+use Rattle.ds_label.specs.Flow.{Naming, has, placed, with_member, union, IsRising}
+use Rattle.ds_label.specs.Search.{IsGap}
 use Rattle.ds_label.proofs.Namings.{IsNaming}
 use lib.Pointwise.{pointwise}
 
@@ -104,7 +105,7 @@ module _ {C : Type 0} (naming : Naming C) (is : IsNaming naming) where
       let later = missed ys x i (omega arith) (λ k d lo hi. below (suc k) d (omega arith) (omega arith)) (λ k d lo hi. above (suc k) d (omega arith) (omega arith)) in
       (ap (λ b. b || has naming x ys) (is.tells x y ∙ ap is_eq e) ∙ later.0, ap (λ o. placed o x y ys (with_member naming x ys)) e ∙ ap (λ zs. y ∷ zs) later.1)
 
-  pub searched : (f : C → Ordering) (xs : List C) (x : C) (r : Result ℕ ℕ) → ((y : C) → f y ≡ naming.compare y x) → IsRising naming xs → IsSearchInRange r (length xs) → IsBinarySearchResult f xs r → IsPlace naming x xs r
+  pub searched : (f : C → Ordering) (xs : List C) (x : C) (r : Result ℕ ℕ) → ((y : C) → f y ≡ naming.compare y x) → IsRising naming xs → IsSearchInRange r (length xs) → IsBinarySearchResult f xs r → IsGap naming x xs (result_err r)
   searched f xs x (Ok i) alike up within at = found xs x i up within (λ d. sym (alike _) ∙ at d)
   searched f xs x (Err i) alike up within at =
       let parts = at (subst (λ (g : C → Ordering). IsNonDecreasingBy (λ y. ordering_index (g y)) xs) (λ i y. sym (alike y) i) (searchable xs x up)) in
@@ -151,9 +152,9 @@ module _ {C : Type 0} (naming : Naming C) (is : IsNaming naming) where
       cases later Greater e = ap (λ b. naming.same d y || b) later ∙ or_swap (naming.same d y) (naming.same d x) (has naming d ys)
 
   -- a rising list with one member more at its place
-  pub grown : (old new slice : List C) (x : C) (place : ℕ) → IsRising naming old → length old < 64 → slice ≡ old → IsPlace naming x slice (Err place) → new ≡ insert old place x → IsRising naming new × (length new ≤ 64)
+  pub grown : (old new slice : List C) (x : C) (place : ℕ) → IsRising naming old → length old < 64 → slice ≡ old → IsGap naming x slice (Some place) → new ≡ insert old place x → IsRising naming new × (length new ≤ 64)
   grown old new slice x place up few same at is-new =
-      let at-old : IsPlace naming x old (Err place) = subst (λ (s : List C). IsPlace naming x s (Err place)) same at in (
+      let at-old : IsGap naming x old (Some place) = subst (λ (s : List C). IsGap naming x s (Some place)) same at in (
         subst (IsRising naming) (at-old.2 ∙ sym is-new) (IsRising-with_member x old up),
         rw is-new (omega (arith, length-append (take place old) (x ∷ drop place old), length-take place old, length-drop place old)),
       )
@@ -165,3 +166,38 @@ module _ {C : Type 0} (naming : Naming C) (is : IsNaming naming) where
       fewer : (p : C → Bool) (xs : List C) → length (filter p xs) ≤ length xs
       fewer p [] = omega arith
       fewer p (x ∷ xs) = elim (p x) as (λ b. length (cond b (x ∷ filter p xs) (filter p xs)) ≤ suc (length xs)) [ true ↦ omega (arith, fewer p xs) | false ↦ omega (arith, fewer p xs) ]
+
+  length-with_member : (x : C) (xs : List C) → length xs ≤ length (with_member naming x xs)
+  length-with_member x [] = omega arith
+  length-with_member x (y ∷ ys) = elim (naming.compare x y) as (λ o. suc (length ys) ≤ length (placed o x y ys (with_member naming x ys))) [
+    | Less ↦ omega arith
+    | Equal ↦ omega arith
+    | Greater ↦ omega (arith, length-with_member x ys)
+  ]
+
+  -- a union has no fewer members than the first
+  pub length-union : (first second : List C) → length first ≤ length (union naming first second)
+  unfolding union
+  length-union first [] = omega arith
+  length-union first (x ∷ second) = omega (arith, length-with_member x first, length-union (with_member naming x first) second)
+
+  pub IsRising-union : (first second : List C) → IsRising naming first → IsRising naming (union naming first second)
+  unfolding union
+  IsRising-union first [] up = up
+  IsRising-union first (x ∷ second) up = IsRising-union (with_member naming x first) second (IsRising-with_member x first up)
+
+  pub union-next : (first second : List C) (x : C) → union naming first (x ∷ second) ≡ union naming (with_member naming x first) second
+  unfolding union
+  union-next first second x = refl
+
+  pub union-none : (first : List C) → union naming first [] ≡ first
+  unfolding union
+  union-none first = refl
+
+  pub length-gap : (xs : List C) (x : C) (place : ℕ) → IsGap naming x xs (Some place) → length (with_member naming x xs) ≡ suc (length xs)
+  length-gap xs x place at = rw at.2 (omega (arith, at.0, length-append (take place xs) (x ∷ drop place xs), length-take place xs, length-drop place xs))
+
+  -- one step of a union, along the second
+  pub union-step : (first second whole : List C) (i : ℕ) (d : C) → i < length second → union naming first (drop i second) ≡ whole → union naming (with_member naming (get_or second i d) first) (drop (i + 1) second) ≡ whole
+  union-step first second whole i d lt rest =
+      rw add-one (sym (union-next first (drop (suc i) second) (get_or second i d)) ∙ ap (union naming first) (sym (drop-cons second i d lt)) ∙ rest)

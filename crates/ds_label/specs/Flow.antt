@@ -49,7 +49,7 @@ with_member naming c (first ∷ rest) = placed (naming.compare c first) c first 
 -- the members of both
 unfoldable pub union : {C : Type 0} → Naming C → List C → List C → List C
 union naming first [] = first
-union naming first (c ∷ members) = with_member naming c (union naming first members)
+union naming first (c ∷ second) = union naming (with_member naming c first) second
 
 -- each member is below those after it, so none stands twice
 abbrev pub IsRising : {C : Type 0} → Naming C → List C → Type 0

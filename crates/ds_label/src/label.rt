@@ -7,7 +7,7 @@ ghost use Rattle.ds_label.specs.Names.{by_name, is_secrecy};
 
 use crate::category::{Category, Kind};
 use crate::fault::{LabelFault, MEMBER_LIMIT};
-use crate::search::place_of_name;
+use crate::search::gap_for_name;
 use std::alloc::{AllocError, Global};
 use std::marker::Model;
 
@@ -91,7 +91,7 @@ impl Label {
     pub fn contains(&self, member: &Category) -> bool
         ensures { result ≡ has by_name member.now self.now }
     {
-        place_of_name(self.members.as_slice(), member).is_ok()
+        gap_for_name(self.members.as_slice(), member).is_none()
     }
 
     /// Makes the category a member. One that is a member already changes nothing. `TooMany` comes exactly where it would be
@@ -102,18 +102,15 @@ impl Label {
         ensures too_many { IsErrOf result LabelFault.TooMany ↔ (64 < length (with_member by_name member self.old)) }
         ensures err { OnErr result (self.new ≡ self.old) }
     {
-        match place_of_name(self.members.as_slice(), &member) {
-            Ok(_) => Ok(()),
-            Err(place) => {
-                if self.members.len() == MEMBER_LIMIT {
-                    return Err(LabelFault::TooMany);
-                }
-                if self.members.insert(place, member).is_err() {
-                    return Err(LabelFault::NoMemory);
-                }
-                Ok(())
+        if let Some(place) = gap_for_name(self.members.as_slice(), &member) {
+            if self.members.len() == MEMBER_LIMIT {
+                return Err(LabelFault::TooMany);
+            }
+            if self.members.insert(place, member).is_err() {
+                return Err(LabelFault::NoMemory);
             }
         }
+        Ok(())
     }
 
     /// The members that aren't members of the other. `AllocError` where memory runs out.

@@ -1,14 +1,16 @@
 //! Labels of a host's own category numbers.
 
-ghost use Rattle.std.specs.Prelude.{◌%◌, ◌==◌, ◌≡◌, ◌≤◌, ◌<◌, ◌↔◌, ◌||◌, not, [], length, filter, IfOk, IsOk, OnOk, OnErr, IsErrOf, IsTrue, slice_get};
+ghost use Rattle.std.specs.Prelude.{nat_le, vec_capacity, ◌%◌, ◌==◌, ◌≡◌, ◌≤◌, ◌<◌, ◌↔◌, ◌||◌, not, [], length, filter, IfOk, IsOk, OnOk, OnErr, IsErrOf, IsTrue, slice_get};
 ghost use Rattle.std.specs.List.{list_all};
-ghost use Rattle.ds_label.specs.Flow.{has, with_member, minus, flows, IsRising};
+ghost use Rattle.std.specs.Bool.{OnTrue};
+ghost use Rattle.ds_label.specs.Flow.{has, with_member, minus, union, flows, IsRising};
 ghost use Rattle.ds_label.specs.Numbers.{by_number};
 
 use crate::fault::{LabelFault, MEMBER_LIMIT};
-use crate::search::place_of_number;
+use crate::search::gap_for_number;
 use std::alloc::{AllocError, Global};
 use std::marker::Model;
+use std::mem;
 
 /// A label: a set of at most 64 category numbers of one host, in strictly rising order. Contracts see the list.
 #[derive(Debug, Drop)]
@@ -89,7 +91,7 @@ impl LocalLabel {
     pub fn contains(&self, member: u64) -> bool
         ensures { result ≡ has by_number member self.now }
     {
-        place_of_number(self.members.as_slice(), member).is_ok()
+        gap_for_number(self.members.as_slice(), member).is_none()
     }
 
     /// Makes the category a member. One that is a member already changes nothing. `TooMany` comes exactly where it would be
@@ -100,18 +102,15 @@ impl LocalLabel {
         ensures too_many { IsErrOf result LabelFault.TooMany ↔ (64 < length (with_member by_number member self.old)) }
         ensures err { OnErr result (self.new ≡ self.old) }
     {
-        match place_of_number(self.members.as_slice(), member) {
-            Ok(_) => Ok(()),
-            Err(place) => {
-                if self.members.len() == MEMBER_LIMIT {
-                    return Err(LabelFault::TooMany);
-                }
-                if self.members.insert(place, member).is_err() {
-                    return Err(LabelFault::NoMemory);
-                }
-                Ok(())
+        if let Some(place) = gap_for_number(self.members.as_slice(), member) {
+            if self.members.len() == MEMBER_LIMIT {
+                return Err(LabelFault::TooMany);
+            }
+            if self.members.insert(place, member).is_err() {
+                return Err(LabelFault::NoMemory);
             }
         }
+        Ok(())
     }
 
     /// The members that aren't members of the other. `AllocError` where memory runs out.
@@ -122,6 +121,28 @@ impl LocalLabel {
         Ok(LocalLabel {
             members: outside(*self.members.allocator(), self.members.as_slice(), other)?,
         })
+    }
+
+    /// Writes the members of both into a vector with room for 64, in order, and says whether there are at most 64. Takes no
+    /// memory.
+    pub fn union_into(&self, other: &LocalLabel, room: &mut Vec<u64>) -> bool
+        requires { 64 ≤ vec_capacity room.old }
+        ensures fits { result ≡ nat_le (length (union by_number self.now other.now)) 64 }
+        ensures union { OnTrue result (room.new.items ≡ union by_number self.now other.now) }
+        ensures rising { OnTrue result (IsRising by_number room.new.items) }
+        ensures limit { OnTrue result (length room.new.items ≤ 64) }
+    {
+        united(self.members.as_slice(), other.members.as_slice(), room)
+    }
+
+    /// Becomes the label of these members, and leaves the former ones in the vector. Takes no memory.
+    pub fn exchange(&mut self, members: &mut Vec<u64>)
+        requires rising { IsRising by_number members.old.items }
+        requires limit { length members.old.items ≤ 64 }
+        ensures label { self.new ≡ members.old.items }
+        ensures former { members.new.items ≡ self.old }
+    {
+        mem::swap(&mut self.members, members);
     }
 
     /// Whether this label flows to the other where nothing is owned: each secrecy category of this one is in the other, and
@@ -141,6 +162,45 @@ impl LocalLabel {
         secrecy_within(self.members.as_slice(), to, own)
             && integrity_within(to.members.as_slice(), self, own)
     }
+}
+
+/// Writes the members of both lists into a vector with room for 64, in order, and says whether there are at most 64.
+fn united(first: &[u64], second: &[u64], room: &mut Vec<u64>) -> bool
+    requires rising { IsRising by_number first.now }
+    requires limit { length first.now ≤ 64 }
+    requires room { 64 ≤ vec_capacity room.old }
+    ensures fits { result ≡ nat_le (length (union by_number first.now second.now)) 64 }
+    ensures union { OnTrue result (room.new.items ≡ union by_number first.now second.now) }
+    ensures rising { OnTrue result (IsRising by_number room.new.items) }
+    ensures limit { OnTrue result (length room.new.items ≤ 64) }
+{
+    room.clear();
+    room.extend_from_slice(first).unwrap();
+    for member in second {
+        if !add(room, *member) {
+            return false;
+        }
+    }
+    true
+}
+
+/// Makes the number one of the members, in a vector with room for 64, and says whether there are at most 64 then.
+fn add(members: &mut Vec<u64>, member: u64) -> bool
+    requires rising { IsRising by_number members.old.items }
+    requires limit { length members.old.items ≤ 64 }
+    requires room { 64 ≤ vec_capacity members.old }
+    ensures fits { result ≡ nat_le (length (with_member by_number member members.old.items)) 64 }
+    ensures members { OnTrue result (members.new.items ≡ with_member by_number member members.old.items) }
+    ensures room { 64 ≤ vec_capacity members.new }
+{
+    let Some(place) = gap_for_number(members.as_slice(), member) else {
+        return true;
+    };
+    if members.len() == MEMBER_LIMIT {
+        return false;
+    }
+    members.insert(place, member).unwrap();
+    true
 }
 
 /// Whether each secrecy category of the list is in one label or the other.

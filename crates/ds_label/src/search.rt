@@ -1,24 +1,24 @@
-//! Where a category stands, or would stand, in a rising list.
+//! Where a category would stand in a rising list.
 
 ghost use Rattle.ds_label.specs.Flow.{IsRising};
-ghost use Rattle.ds_label.specs.Search.{IsPlace};
 ghost use Rattle.ds_label.specs.Names.{by_name};
 ghost use Rattle.ds_label.specs.Numbers.{by_number};
+ghost use Rattle.ds_label.specs.Search.{IsGap};
 
 use crate::category::Category;
 
-/// The place of a name, or the place where it would stand.
-pub fn place_of_name(members: &[Category], member: &Category) -> Result<usize, usize>
+/// The place where a name would stand; none where it is there.
+pub fn gap_for_name(members: &[Category], member: &Category) -> Option<usize>
     requires { IsRising by_name members.now }
-    ensures { IsPlace by_name member.now members.now result }
+    ensures { IsGap by_name member.now members.now result }
 {
-    members.binary_search(member)
+    members.binary_search(member).err()
 }
 
-/// The place of a number, or the place where it would stand.
-pub fn place_of_number(members: &[u64], member: u64) -> Result<usize, usize>
+/// The place where a number would stand; none where it is there.
+pub fn gap_for_number(members: &[u64], member: u64) -> Option<usize>
     requires { IsRising by_number members.now }
-    ensures { IsPlace by_number member members.now result }
+    ensures { IsGap by_number member members.now result }
 {
-    members.binary_search(&member)
+    members.binary_search(&member).err()
 }

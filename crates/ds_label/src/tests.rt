@@ -118,6 +118,9 @@ fn numbers_flow_by_parity(rt: HostRuntime) -> Result<(), Fail> {
     }
     assert!(rt; both.contains(2) && both.contains(3) && !secret.contains(3));
     assert!(rt; both.minus(&vouched)?.same(&secret));
+    let mut room = Vec::with_capacity(rt.alloc(), 64)?;
+    assert!(rt; secret.union_into(&vouched, &mut room));
+    assert_eq!(rt; room.as_slice(), [2, 3].as_slice());
     Ok(())
 }
 

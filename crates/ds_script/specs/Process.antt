@@ -1,7 +1,7 @@
 -- A process.
 use Rattle.std.specs.Prelude.{◌≡◌, ℕ, ◌+◌, Bool, List, [], ◌∷◌, ◌++◌, Option, Some, None, replicate, if◌then◌else◌}
 use Rattle.ds_label.specs.declared.category.Category.{Category}
-use Rattle.ds_label.specs.Flow.{with_member}
+use Rattle.ds_label.specs.Flow.{with_member, union}
 use Rattle.ds_label.specs.Numbers.{by_number}
 use Rattle.ds_script.specs.declared.op.Op.{Op}
 use Rattle.ds_script.specs.declared.note.Note.{Note}
@@ -42,3 +42,7 @@ finished_process note load p = record p { course = finished note load p.course; 
 -- a category that the process made
 abbrev pub made_process : Category → ℕ → Process → Process
 made_process category local p = record p { own = with_member by_number local p.own; names = with_name category local p.names; made = p.made + 1 }
+
+-- what a message grants joins ownership and clearance
+abbrev pub granted_process : List ℕ → List ℕ → Process → Process
+granted_process own clear p = record p { own = union by_number p.own own; clear = union by_number p.clear clear }

@@ -7,14 +7,11 @@ ghost use Rattle.ds_label.specs.declared.rule.Rule.TheVariants.{TooLong};
 ghost use Rattle.ds_script.specs.declared.note.Note.TheVariants.{Refused};
 
 use crate::note::Note;
-use crate::op::Op;
+use crate::op::{Op, REGISTER_LIMIT};
 use ds_label::Rule;
 use ds_wire::{Buffer, Bytes};
 use std::alloc::{AllocError, Global};
 use std::marker::Model;
-
-/// Most bytes of a register.
-pub const REGISTER_LIMIT: usize = 16384;
 
 /// The next operation's place, eight registers and the notes. Contracts see these, and for how many notes there is room.
 #[derive(Debug, Drop)]

@@ -1,10 +1,11 @@
 //! A process.
 
-ghost use Rattle.std.specs.Prelude.{◌≡◌, ◌+◌, ◌^◌, ◌<◌, ◌≤◌, ◌↔◌, length, IfOk, OnOk, OnErr, IfSome, IsErrOf, IsTrue, vec_len, vec_capacity, Ok, Some, None, false, option_copied, slice_get, if◌then◌else◌};
+ghost use Rattle.std.specs.Prelude.{◌≡◌, ◌+◌, ◌^◌, ◌<◌, ◌≤◌, ◌↔◌, length, IfOk, OnOk, OnErr, IfSome, IsErr, IsTrue, Err, nat_le, ◌&&◌, vec_len, vec_capacity, Ok, Some, None, false, option_copied, slice_get, if◌then◌else◌};
+ghost use Rattle.std.specs.Bool.{OnTrue, OnFalse};
 ghost use Rattle.ds_script.specs.Inner.{inner, register};
 ghost use Rattle.ds_script.specs.Fits.{IsOp, IsScript};
 ghost use Rattle.ds_script.specs.Names.{with_name, is_named as is_named_in};
-ghost use Rattle.ds_label.specs.Flow.{with_member};
+ghost use Rattle.ds_label.specs.Flow.{with_member, union};
 ghost use Rattle.ds_label.specs.Numbers.{by_number};
 
 use crate::course::CourseState;
@@ -47,7 +48,7 @@ impl Model for Proc {
 }
 
 impl Proc {
-    ghost use Rattle.ds_script.specs.Process.{fresh, finished_process, made_process};
+    ghost use Rattle.ds_script.specs.Process.{fresh, finished_process, made_process, granted_process};
 
     /// A process at its script's first operation, with empty registers and no note. Takes no memory. It needs a script of at
     /// most 4,096 operations with registers below 8, texts of at most 16,384 bytes, places not past the script's end and,
@@ -222,6 +223,47 @@ impl Proc {
         ensures spare { self.new.spare ≡ self.old.spare }
     {
         self.label = label;
+    }
+
+    /// A category that the process made: it is owned, and it and its number join the usable names unless it is among them.
+    /// It is refused where the ownership would get a 65th member: `TooMany`, unless memory runs out, which is `NoMemory`.
+    /// After either the process is the same.
+    pub fn make(&mut self, category: Category, local: u64) -> Result<(), LabelFault>
+        requires { self.old.process.made + 1 < 2 ^ 32 }
+        ensures ok { OnOk result (self.new.process ≡ made_process category local self.old.process) }
+        ensures too_many { result ≡ Err LabelFault.TooMany → 64 < length (with_member by_number local self.old.process.own) }
+        ensures refused { 64 < length (with_member by_number local self.old.process.own) → IsErr result }
+        ensures err { OnErr result (self.new.process ≡ self.old.process) }
+        ensures room { self.old.room ≤ self.new.room }
+        ensures spare { self.new.spare ≡ self.old.spare }
+    {
+        if self.names.reserve(2).is_err() {
+            return Err(LabelFault::NoMemory);
+        }
+        self.own.insert(local)?;
+        join_names(&mut self.names, category, local);
+        self.made += 1;
+        Ok(())
+    }
+
+    /// Adds to the ownership and the clearance, and says whether it did: neither is added where either would get a 65th
+    /// member. It needs room for a grant. Takes no memory.
+    pub fn grant(&mut self, own: &LocalLabel, clear: &LocalLabel) -> bool
+        requires { 0 < self.old.spare }
+        ensures fits { result ≡ (nat_le (length (union by_number self.old.process.own own.now)) 64 && nat_le (length (union by_number self.old.process.clear clear.now)) 64) }
+        ensures granted { OnTrue result (self.new.process ≡ granted_process own.now clear.now self.old.process) }
+        ensures refused { OnFalse result (self.new.process ≡ self.old.process) }
+        ensures room { self.new.room ≡ self.old.room }
+    {
+        if !self.own.union_into(own, &mut self.own_room) {
+            return false;
+        }
+        if !self.clear.union_into(clear, &mut self.clear_room) {
+            return false;
+        }
+        self.own.exchange(&mut self.own_room);
+        self.clear.exchange(&mut self.clear_room);
+        true
     }
 }
 

@@ -6,9 +6,9 @@ use Rattle.ds_label.proofs.Namings.{names}
 use Rattle.ds_label.proofs.Members.{grown}
 use Rattle.ds_label.proofs.label.Label.insert.Goals as goal
 
-pub invariant_of-self-in-Err : goal.invariant_of-self-in-Err
-invariant_of-self-in-Err c =
+pub invariant_of-self-else-is_err : goal.invariant_of-self-else-is_err
+invariant_of-self-else-is_err c =
     let old = c.self.inside.members.items in
-    let items : c.insert.new.self.items ≡ insert old c.in-Err.place c.args.member = grind (arith, common_steps) in
+    let items : c.insert.new.self.items ≡ insert old c.in-Some.place c.args.member = grind (arith, common_steps) in
     let few : length old < 64 = omega (arith, ap length c.as_slice.ensures.value, c.self.invariant.1) in
-    grown by_name names old c.insert.new.self.items c.as_slice.result.now c.args.member c.in-Err.place c.self.invariant.0 few c.as_slice.ensures.value c.in-Err.ensures items
+    grown by_name names old c.insert.new.self.items c.as_slice.result.now c.args.member c.in-Some.place c.self.invariant.0 few c.as_slice.ensures.value c.in-Some.ensures items
