@@ -1,6 +1,6 @@
 -- Bytes that move from a list into the front of a room.
-use Rattle.std.proofs.Common.{◌≡◌, ℕ, ◌≤◌, ◌+◌, ◌-◌, List, ◌++◌, length, take, drop, refl, sym, ap, ◌∙◌, arith, slice_range}
-use Rattle.std.proofs.lemmas.List.{take-append-drop, take_at, length-drop, length-take}
+use Rattle.std.proofs.Common.{◌≡◌, ℕ, ◌≤◌, ◌+◌, List, ◌++◌, length, take, drop, arith, slice_range}
+use Rattle.std.proofs.lemmas.List.{take-append-drop}
 use Rattle.std.proofs.lemmas.Grind.{common_steps}
 
 -- what is copied from a place on, and what is left behind it, is all from that place on

@@ -1,5 +1,5 @@
 -- The marks that a keeper tells: the number of every name, 0 where none was kept.
-use Rattle.std.specs.Prelude.{◌≡◌, ◌≢◌, ◌⊎◌, ℕ, max, List, [], ◌∷◌, bytes_eq, if◌then◌else◌, Option, Some, None}
+use Rattle.std.specs.Prelude.{◌≡◌, ◌≢◌, ◌⊎◌, ℕ, max, List, [], ◌∷◌, bytes_eq, position, IsSome, if◌then◌else◌, Option, Some, None}
 
 -- where the marks are told, n is the one of that name
 abbrev pub IsMark : Option (List ℕ → ℕ) → List ℕ → ℕ → Type 0
@@ -26,3 +26,7 @@ MayBeRaised (Some old) name to (Some new) = ((new name ≡ old name) ⊎ (new na
 abbrev pub mark_of : List (List ℕ × ℕ) → List ℕ → ℕ
 mark_of [] name = 0
 mark_of (kept ∷ rest) name = if bytes_eq kept.0 name then kept.1 else mark_of rest name
+
+-- a mark is kept for the name
+abbrev pub IsKept : List (List ℕ × ℕ) → List ℕ → Type 0
+IsKept marks name = IsSome (position (λ kept. bytes_eq kept.0 name) marks)

@@ -1,5 +1,5 @@
 -- What contracts see of the fields of the objects in memory.
-use Rattle.std.specs.Prelude.{ℕ, ◌≤◌, drop, vec_len}
+use Rattle.std.specs.Prelude.{drop}
 use Rattle.ds_base.specs.Plans.{Plan}
 use Rattle.ds_base.specs.Memory.{Supply, CalmSupply, Output, CalmMarks, Marks, Connections}
 use Rattle.ds_base.specs.Edge.{Reading, Writing}

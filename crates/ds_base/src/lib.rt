@@ -23,6 +23,8 @@ mod mem_wire;
 mod read_source;
 mod sink;
 mod source;
+#[cfg(test)]
+mod tests;
 mod wire;
 mod write_sink;
 

@@ -1,9 +1,9 @@
 //! A keeper in memory whose faults are planned.
 #![tactic(auto)]
 
-ghost use Rattle.std.specs.Prelude.{◌≡◌, ◌≢◌, ◌↔◌, ◌⊎◌, max, position, AllPairs, Contains, Some, IfOk, OnOk, OnErr, IsErr, MatchResult};
+ghost use Rattle.std.specs.Prelude.{◌≡◌, ◌≢◌, ◌↔◌, ◌⊎◌, max, position, AllPairs, Contains, Some, IfOk, OnOk, OnErr, IsOk, IsErr, MatchResult};
 ghost use Rattle.std.specs.Str.{bytes_eq};
-ghost use Rattle.ds_base.specs.Marks.{Raised, MayBeRaised, KeepsOthers, mark_of};
+ghost use Rattle.ds_base.specs.Marks.{Raised, MayBeRaised, KeepsOthers, IsKept, mark_of};
 ghost use Rattle.ds_base.specs.Plans.{IsDue, passed, failed, plan_of};
 
 use crate::failed::Failed;
@@ -54,6 +54,7 @@ fn look_up(marks: &[([u8; 16], u64)], name: &[u8; 16]) -> u64
 fn keep(marks: &mut Vec<([u8; 16], u64)>, name: &[u8; 16], to: u64) -> Result<(), AllocError>
     ensures mark { OnOk result (mark_of marks.new.items name.now ≡ max (mark_of marks.old.items name.now) to) }
     ensures others { OnOk result (KeepsOthers (mark_of marks.old.items) name.now (mark_of marks.new.items)) }
+    ensures kept { IsKept marks.old.items name.now → IsOk result }
     ensures err { OnErr result (marks.new.items ≡ marks.old.items) }
 {
     match place_of(marks, name) {
@@ -103,7 +104,8 @@ impl Keeper for MemKeeper {
         ensures plan { MatchResult result (λ _. self.new.plan ≡ passed self.old.plan) (λ _. self.new.plan ≡ failed self.old.plan) }
         ensures ok { OnOk result (Raised (Some (mark_of self.old.marks)) name.now to (Some (mark_of self.new.marks))) }
         ensures err { OnErr result (MayBeRaised (Some (mark_of self.old.marks)) name.now to (Some (mark_of self.new.marks))) }
-        ensures kept { OnErr result (Contains self.old.keeping self.new.plan.made ⊎ (self.new.marks ≡ self.old.marks)) }
+        ensures lost { OnErr result (Contains self.old.keeping self.new.plan.made ⊎ (self.new.marks ≡ self.old.marks)) }
+        ensures kept { IsDue self.old.plan → Contains self.old.keeping self.new.plan.made → IsKept self.old.marks name.now → mark_of self.new.marks name.now ≡ max (mark_of self.old.marks name.now) to }
         ensures same { self.new.keeping ≡ self.old.keeping }
     {
         if self.plan.pass().is_err() {

@@ -83,5 +83,7 @@ impl Sink for MemSink {
 
     fn close(&mut self)
         ensures { self.new ≡ self.old }
-    {}
+    {
+        // No reader waits for the end of what lies in memory.
+    }
 }

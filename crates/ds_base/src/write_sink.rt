@@ -87,6 +87,5 @@ impl<W: Write + Drop> Sink for WriteSink<W> {
 
     fn close(&mut self)
         ensures { self.new ≡ self.old }
-    {
-    }
+    {}
 }
