@@ -55,7 +55,7 @@ answers m bytes TooLong c e r w =
 answers m bytes (Document code place) c e r w =
     let same : c.2.bytes ≡ bytes = whole_is m bytes c.2.bytes e c.2.whole in
     rw (c.0, c.1)
-      (turned_down bytes (subst (λ (l : List ℕ). length l ≤ input_limit) same c.2.whole.short) (subst IsNoDocument same c.2.no_document))
+    (turned_down bytes (subst (λ (l : List ℕ). length l ≤ input_limit) same c.2.whole.short) (subst IsNoDocument same c.2.no_document))
 answers m bytes NoMemory c e r w = no_memory bytes
 answers m bytes KeeperFault c e r w = absurd c
 answers m bytes Spent c e r w = absurd c

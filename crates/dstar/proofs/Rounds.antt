@@ -42,7 +42,7 @@ goes_on start w count left index kept h k m e =
     let next : left - kept - 1 ≡ left - (kept + 1) = omega arith in
     let some : 0 < left - kept = omega arith in
     let r : round w (places index (count - index)) (left - kept) ≡ index ∷ round (step w index) (places (index + 1) (count - (index + 1))) (left - (kept + 1)) =
-      kept_round w index count (left - kept) h some m ∙ ap (λ n. index ∷ round (step w index) (places (index + 1) (count - (index + 1))) n) next in
+    kept_round w index count (left - kept) h some m ∙ ap (λ n. index ∷ round (step w index) (places (index + 1) (count - (index + 1))) n) next in
     record { world = sym (ap (run w) r) ∙ e.world; size = omega (arith, ap length r, e.size) }
 
 pub skips : (start w : World) (count left index kept : ℕ) → index < count → (nat_lt 0 (left - kept) && moves w index) ≡ false → Ends start count left w index kept → Ends start count left w (index + 1) kept
@@ -88,8 +88,8 @@ pub continues : (w end : World) (ps : List ℕ) (count at left : ℕ) (goal : Wo
 continues w end ps count at left goal h e n g =
     let fuel : count - at ≡ suc (count - (at + 1)) = omega arith in
     rw e
-      (sym (run-append w (round w ps left) (rounds (count - (at + 1)) (run w (round w ps left)) ps (left - length (round w ps left))))
-      ∙ (sym (ap (run w) (ap (λ k. rounds k w ps left) fuel ∙ round_more w ps (count - (at + 1)) left n)) ∙ g))
+    (sym (run-append w (round w ps left) (rounds (count - (at + 1)) (run w (round w ps left)) ps (left - length (round w ps left))))
+    ∙ (sym (ap (run w) (ap (λ k. rounds k w ps left) fuel ∙ round_more w ps (count - (at + 1)) left n)) ∙ g))
 
 pub tried : (start w v : World) (count left index kept after : ℕ) → index < count → Tried w index kept left v after → Ends start count left w index kept → Ends start count left v (index + 1) after
 tried start w v count left index kept after h (kept_one below moved e f) i = rw (e, f) (goes_on start w count left index kept h below moved i)

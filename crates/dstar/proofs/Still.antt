@@ -108,4 +108,4 @@ pub still : (w : World) (p : ℕ) → p < length w.processes → moves w p ≡ f
 unfolding step
 still w p h e =
     stepped_still w p (inner (at_place w p).script (at_place w p).course) h refl
-      (eqb-true (place_of p (step w p)) (place_of p w) (not_true (eqb (place_of p (step w p)) (place_of p w)) e))
+    (eqb-true (place_of p (step w p)) (place_of p w) (not_true (eqb (place_of p (step w p)) (place_of p w)) e))

@@ -53,7 +53,7 @@ abbrev pub taken : World → ℕ → Process → ℕ → ℕ → ℕ → List (L
 taken w p process slot reg i [] = w
 taken w p process slot reg i (payload ∷ others) =
     with_box i (took payload others (get_or w.boxes i no_box))
-      (goes p process (finished (Some (notes.Took slot (length payload) true)) (Some (reg, payload)) process.course) w)
+    (goes p process (finished (Some (notes.Took slot (length payload) true)) (Some (reg, payload)) process.course) w)
 
 -- a take: refused where no mailbox of the process has the slot
 abbrev pub takes : World → ℕ → Process → ℕ → ℕ → Option ℕ → World

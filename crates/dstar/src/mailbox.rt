@@ -115,7 +115,8 @@ impl Mailbox {
         let Some(payload) = self.waiting.pop_front() else {
             return Ok(None);
         };
-        self.entries.push(Entry::Took(payload.as_slice().len() as u32))?;
+        self.entries
+            .push(Entry::Took(payload.as_slice().len() as u32))?;
         Ok(Some(payload))
     }
 }

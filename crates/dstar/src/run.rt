@@ -16,12 +16,7 @@ use serde_json::Value;
 use std::alloc::{AllocError, Global};
 
 /// Appends the sections of a host after its canonical run of at most `budget` events.
-fn push_run(
-    alloc: Global,
-    out: &mut Vec<u8>,
-    host: HostSpec,
-    budget: u32,
-) -> Result<(), AllocError>
+fn push_run(alloc: Global, out: &mut Vec<u8>, host: HostSpec, budget: u32) -> Result<(), AllocError>
     requires { IsFit host }
     ensures { OnOk result (out.new.items ≡ out.old.items ++ run_sections (host_view host) budget) }
 {

@@ -99,7 +99,11 @@ impl Runner {
     }
 
     /// The end of an operation: its note, what it loads into a register, and the next place.
-    pub(crate) fn finish(&mut self, note: Note, loaded: Option<(u8, Bytes)>) -> Result<(), AllocError>
+    pub(crate) fn finish(
+        &mut self,
+        note: Note,
+        loaded: Option<(u8, Bytes)>,
+    ) -> Result<(), AllocError>
         requires going { self.old.course.place < length self.old.script }
         requires fits { IfSome loaded (λ l. (l.0 < 8) × (length l.1 ≤ 16384)) }
         ensures { OnOk result (self.new ≡ record self.old { course = finished (Some note) loaded self.old.course }) }

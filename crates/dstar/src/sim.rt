@@ -14,11 +14,17 @@ use std::alloc::Global;
 /// Reads a document, runs it by the canonical schedule, and writes the text of the run.
 pub(crate) fn sim<R: Source, W: Sink>(alloc: Global, input: &mut R, out: &mut W) -> Status
     ensures caused { Caused (record {
-        told = R.tells input.old; left = R.tells input.new;
-        read_faults = R.faults input.old; read_faults_after = R.faults input.new;
-        ends = R.ends input.old; ends_after = R.ends input.new;
-        written = W.tells out.old; written_after = W.tells out.new;
-        write_faults = W.faults out.old; write_faults_after = W.faults out.new }) result }
+      told = R.tells input.old;
+      left = R.tells input.new;
+      read_faults = R.faults input.old;
+      read_faults_after = R.faults input.new;
+      ends = R.ends input.old;
+      ends_after = R.ends input.new;
+      written = W.tells out.old;
+      written_after = W.tells out.new;
+      write_faults = W.faults out.old;
+      write_faults_after = W.faults out.new;
+    }) result }
     ensures read_faults { R.faults input.old ≤ R.faults input.new }
     ensures ends { R.ends input.old ≤ R.ends input.new }
     ensures write_faults { W.faults out.old ≤ W.faults out.new }

@@ -33,7 +33,11 @@ fn digit(number: u8) -> u8
     requires { number < 16 }
     ensures { result ≡ digit number }
 {
-    if number < 10 { b'0' + number } else { b'a' - 10 + number }
+    if number < 10 {
+        b'0' + number
+    } else {
+        b'a' - 10 + number
+    }
 }
 
 fn push_shown_byte(out: &mut Vec<u8>, byte: u8) -> Result<(), AllocError>
@@ -66,7 +70,11 @@ fn push_note(out: &mut Vec<u8>, note: &Note) -> Result<(), AllocError>
             push(out, b"\n")
         }
         Note::Sent => push(out, b"  sent\n"),
-        Note::Took { slot, length, granted: _ } => {
+        Note::Took {
+            slot,
+            length,
+            granted: _,
+        } => {
             push(out, b"  took ")?;
             push_number(out, u64::from(*slot))?;
             push(out, b" ")?;
@@ -175,11 +183,7 @@ fn push_box(out: &mut Vec<u8>, name: &[u8], mailbox: &Mailbox) -> Result<(), All
     push_entries(out, name, mailbox.entries())
 }
 
-fn push_processes(
-    out: &mut Vec<u8>,
-    name: &[u8],
-    processes: &[Runner],
-) -> Result<(), AllocError>
+fn push_processes(out: &mut Vec<u8>, name: &[u8], processes: &[Runner]) -> Result<(), AllocError>
     ensures { OnOk result (out.new.items ≡ out.old.items ++ flat_map (λ section. section) (process_sections name.now 0 processes.now)) }
 {
     for (index, process) in processes.iter().enumerate() {

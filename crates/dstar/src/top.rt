@@ -39,11 +39,17 @@ pub fn dstar_run<R: Source, W: Sink, K: Keeper>(
 
     // Each other status has its cause.
     ensures caused { result ≢ Status.Usage → Caused (record {
-        told = R.tells input.old; left = R.tells input.new;
-        read_faults = R.faults input.old; read_faults_after = R.faults input.new;
-        ends = R.ends input.old; ends_after = R.ends input.new;
-        written = W.tells out.old; written_after = W.tells out.new;
-        write_faults = W.faults out.old; write_faults_after = W.faults out.new }) result }
+      told = R.tells input.old;
+      left = R.tells input.new;
+      read_faults = R.faults input.old;
+      read_faults_after = R.faults input.new;
+      ends = R.ends input.old;
+      ends_after = R.ends input.new;
+      written = W.tells out.old;
+      written_after = W.tells out.new;
+      write_faults = W.faults out.old;
+      write_faults_after = W.faults out.new;
+    }) result }
     // Where the input tells its bytes and no count rose, the bytes alone decide, unless memory ran out.
     ensures answers { is_sim (texts words.now.items) ≡ true → (bytes : List ℕ) → R.tells input.old ≡ Some bytes
         → ¬ Rose (R.faults input.old) (R.faults input.new) → ¬ Rose (W.faults out.old) (W.faults out.new)

@@ -110,7 +110,12 @@ impl OneHost {
     }
 
     /// The process at a place ends its operation.
-    fn finish_at(&mut self, index: usize, note: Note, loaded: Option<(u8, Bytes)>) -> Result<(), AllocError>
+    fn finish_at(
+        &mut self,
+        index: usize,
+        note: Note,
+        loaded: Option<(u8, Bytes)>,
+    ) -> Result<(), AllocError>
         requires within { index < length self.old.processes }
         requires going { (get_or self.old.processes index no_process).course.place < length (get_or self.old.processes index no_process).script }
         requires fits { IfSome loaded (λ l. (l.0 < 8) × (length l.1 ≤ 16384)) }
@@ -140,7 +145,9 @@ impl OneHost {
         ensures place { result ≡ position (is_own index slot) self.now.boxes }
         ensures within { IfSome result (λ i. i < length self.now.boxes) }
     {
-        self.boxes.iter().position(|b| b.slot() == slot && b.owner() as usize == index)
+        self.boxes
+            .iter()
+            .position(|b| b.slot() == slot && b.owner() as usize == index)
     }
 
     /// A message goes to the mailbox at a place.

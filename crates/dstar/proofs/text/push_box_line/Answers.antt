@@ -12,6 +12,6 @@ returns c =
     let room : c.from-2.result ≡ c.args.mailbox.now.room = cc in
     let waits : c.waits.result ≡ length c.args.mailbox.now.waiting = c.waits.ensures in
     rw (← slot, ← room, ← waits)
-      (on_ok_weaker c.push-3.result
-        (six_pieces _ _ _ _ _ _ _ _ _ _ _ _ _ _ _ _ c.in_ok-push.ensures c.in_ok-push-2.ensures c.in_ok-push_counted.ensures c.in_ok-push_counted-2.ensures c.in_ok-push_counted-3.ensures)
-        c.push-3.ensures)
+    (on_ok_weaker c.push-3.result
+    (six_pieces _ _ _ _ _ _ _ _ _ _ _ _ _ _ _ _ c.in_ok-push.ensures c.in_ok-push-2.ensures c.in_ok-push_counted.ensures c.in_ok-push_counted-2.ensures c.in_ok-push_counted-3.ensures)
+    c.push-3.ensures)

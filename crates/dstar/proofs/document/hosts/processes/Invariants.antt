@@ -11,5 +11,5 @@ invariant-loop-value l = record {
   fits : All IsScript l.scripts.items;
   count : length l.scripts.items ≡ l.value-index;
   read : with_front l.scripts.items (each (script_in l.name) (map view (drop l.value-index l.values)))
-    ≡ each (script_in l.name) (map view l.values);
+      ≡ each (script_in l.name) (map view l.values);
 }

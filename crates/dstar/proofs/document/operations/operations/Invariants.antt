@@ -11,5 +11,5 @@ invariant-loop-value l = record {
   size : length l.script ≡ l.value-index;
   fits : All (IsOp l.size) l.script;
   read : with_front l.script (each (operation_in (record { name = l.name; length = l.size })) (map view (drop l.value-index l.values)))
-    ≡ each (operation_in (record { name = l.name; length = l.size })) (map view l.values);
+      ≡ each (operation_in (record { name = l.name; length = l.size })) (map view l.values);
 }
