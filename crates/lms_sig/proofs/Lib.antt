@@ -1,3 +1,5 @@
 pub mod Digits
 pub mod Chains
 pub mod Pieces
+pub mod Trees
+pub mod Climbs

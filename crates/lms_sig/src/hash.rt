@@ -1,8 +1,8 @@
 //! The messages that are hashed: each begins with the identifier, a number of a leaf or a node, and a
 //! number that says what kind of message it is.
 
-ghost use Rattle.std.specs.Prelude.{◌≡◌, ◌+◌, ◌++◌, ◌≤◌, length, take};
-ghost use Rattle.lms_sig.specs.Strings.{u8str, u16str, u32_at, u32str};
+ghost use Rattle.std.specs.Prelude.{◌≡◌, ◌+◌, ◌*◌, ◌++◌, ◌≤◌, length, take};
+ghost use Rattle.lms_sig.specs.Strings.{part, u16str, u32_at, u32str};
 ghost use Rattle.lms_sig.specs.Merkle.{inner, leaf};
 
 use sha2::{Digest, Sha256};
@@ -30,6 +30,16 @@ pub(crate) fn read_u32(bytes: &[u8], at: usize) -> u32
     ensures { result ≡ u32_at bytes.now at }
 {
     u32::from_be_bytes([bytes[at], bytes[at + 1], bytes[at + 2], bytes[at + 3]])
+}
+
+// The `i`-th of the values of 32 bytes that stand one after another.
+pub(crate) fn value_at(values: &[u8], i: usize) -> [u8; 32]
+    requires { 32 * i + 32 ≤ length values.now }
+    ensures { result ≡ part values.now (32 * i) 32 }
+{
+    let mut out = [0u8; 32];
+    out.copy_from_slice(&values[32 * i..32 * i + 32]);
+    out
 }
 
 // Writes a piece into `out` from place `at` on.
@@ -62,7 +72,7 @@ pub(crate) fn leaf_hash(id: &[u8; 16], node: u32, key: &[u8; 32]) -> [u8; 32]
 }
 
 // The value of an inner node.
-pub(crate) fn inner_hash(id: &[u8; 16], node: u32, left: &[u8], right: &[u8]) -> [u8; 32]
+pub(crate) fn inner_hash(id: &[u8; 16], node: u32, left: &[u8; 32], right: &[u8; 32]) -> [u8; 32]
     ensures { result ≡ inner id.now node left.now right.now }
 {
     let mut hasher = Sha256::new();

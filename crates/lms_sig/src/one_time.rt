@@ -6,7 +6,7 @@ ghost use Rattle.lms_sig.specs.Parameters.{chain_length, digit_count, ots_length
 ghost use Rattle.lms_sig.specs.Strings.{coef, joined, u16str};
 
 use crate::chain::{chain, randomiser, secret};
-use crate::hash::{prefix, put, u16_bytes, u32_bytes};
+use crate::hash::{prefix, put, u16_bytes, u32_bytes, value_at};
 use crate::params::OtsType;
 use sha2::{Digest, Sha256};
 use std::alloc::AllocError;
@@ -120,16 +120,6 @@ pub(crate) fn put_one_time(
     out.extend_from_slice(&random)?;
     put_ys(out, ots, seed, id, q, &hash)?;
     Ok(())
-}
-
-// The value of a chain that a signature reveals.
-fn value_at(values: &[u8], i: usize) -> [u8; 32]
-    requires { 32 * i + 32 ≤ length values.now }
-    ensures { result ≡ take 32 (drop (32 * i) values.now) }
-{
-    let mut out = [0u8; 32];
-    out.copy_from_slice(&values[32 * i..32 * i + 32]);
-    out
 }
 
 // The one-time public key that follows from a message and its one-time signature.

@@ -10,6 +10,7 @@ ghost use Rattle.lms_sig.specs.declared.params.Params.{Params};
 use crate::hash::{inner_hash, leaf_hash, put, u32_bytes};
 use crate::one_time::{one_time_key, put_one_time};
 use crate::params::Params;
+use crate::path::sibling_of;
 use std::alloc::{AllocError, Global};
 use std::marker::Model;
 
@@ -74,8 +75,7 @@ fn put_path(
 {
     let mut node = (params.lms.leaf_count() + q) as usize;
     'levels: for _level in 0..params.lms.height() {
-        let other = if node % 2 == 0 { node + 1 } else { node - 1 };
-        out.extend_from_slice(&nodes[other])?;
+        out.extend_from_slice(&nodes[sibling_of(node)])?;
         node /= 2;
     }
     Ok(())
