@@ -1,5 +1,5 @@
 -- The way up from a node, a step at a time.
-use Rattle.std.proofs.Common.{◌≡◌, ℕ, zero, suc, ◌+◌, ◌-◌, ◌*◌, ◌/◌, ◌<◌, List, [], ◌++◌, length, take, drop, refl, sym, arith, append_assoc}
+use Rattle.std.proofs.Common.{◌≡◌, ℕ, suc, ◌+◌, ◌-◌, ◌*◌, ◌/◌, ◌<◌, List, [], ◌++◌, take, drop, refl, arith}
 use Rattle.std.proofs.lemmas.List.{drop-drop}
 use Rattle.lms_sig.specs.Merkle.{T, climb, parent, path, sibling}
 use Rattle.lms_sig.specs.Strings.{part}

@@ -1,5 +1,5 @@
 -- Digits of byte strings, as the code reads them.
-use Rattle.std.proofs.Common.{◌≡◌, ℕ, zero, suc, ◌+◌, ◌-◌, ◌*◌, ◌/◌, ◌%◌, ◌^◌, ◌<◌, ◌≤◌, List, get_or, refl, add-one, arith}
+use Rattle.std.proofs.Common.{◌≡◌, ℕ, zero, suc, ◌+◌, ◌-◌, ◌*◌, ◌/◌, ◌%◌, ◌<◌, ◌≤◌, List, get_or, refl, add-one, arith}
 use Rattle.lms_sig.specs.OneTime.{missing}
 use Rattle.lms_sig.specs.Parameters.{chain_length, width}
 use Rattle.lms_sig.specs.declared.params.OtsType.{OtsType}

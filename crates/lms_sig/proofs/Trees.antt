@@ -1,5 +1,5 @@
 -- Nodes of a tree: where they stand, and how a list of them is filled.
-use Rattle.std.proofs.Common.{◌≡◌, ◌≢◌, ℕ, zero, suc, ◌+◌, ◌-◌, ◌*◌, ◌/◌, ◌%◌, ◌^◌, ◌<◌, ◌≤◌, ◌⊎◌, inl, inr, List, [], length, get_or, set, refl, sym, ap, ◌∙◌, arith, get_or-set_other, get_or-set_same}
+use Rattle.std.proofs.Common.{◌≡◌, ◌≢◌, ℕ, zero, suc, ◌+◌, ◌-◌, ◌*◌, ◌/◌, ◌%◌, ◌^◌, ◌<◌, ◌≤◌, ◌⊎◌, inl, inr, List, [], length, get_or, set, refl, arith, get_or-set_other, get_or-set_same}
 use Rattle.std.proofs.Math.Nat.{pow-succ'}
 use Rattle.std.proofs.lemmas.Bool.{cases_eq}
 use Rattle.lms_sig.specs.Kept.{HoldsFrom, IsNode}
@@ -23,24 +23,24 @@ pow-le_add d (suc k) =
 -- the children of a node, its parent and its sibling
 pub left_child : (params : Params) (k d r : ℕ) → IsNode params (suc k) d r → IsNode params k (suc d) (2 * r)
 left_child params k d r at = record {
-    levels = omega (arith, at.levels);
-    from = omega (arith, at.from, pow-double d);
-    below = omega (arith, at.below, pow-double d);
-  }
+  levels = omega (arith, at.levels);
+  from = omega (arith, at.from, pow-double d);
+  below = omega (arith, at.below, pow-double d);
+}
 
 pub right_child : (params : Params) (k d r : ℕ) → IsNode params (suc k) d r → IsNode params k (suc d) (2 * r + 1)
 right_child params k d r at = record {
-    levels = omega (arith, at.levels);
-    from = omega (arith, at.from, pow-double d);
-    below = omega (arith, at.below, pow-double d);
-  }
+  levels = omega (arith, at.levels);
+  from = omega (arith, at.from, pow-double d);
+  below = omega (arith, at.below, pow-double d);
+}
 
 pub parent_node : (params : Params) (k d r : ℕ) → IsNode params k (suc d) r → IsNode params (k + 1) d (r / 2)
 parent_node params k d r at = record {
-    levels = omega (arith, at.levels);
-    from = omega (arith, at.from, pow-double d);
-    below = omega (arith, at.below, pow-double d);
-  }
+  levels = omega (arith, at.levels);
+  from = omega (arith, at.from, pow-double d);
+  below = omega (arith, at.below, pow-double d);
+}
 
 pub sibling_even : (r : ℕ) → r % 2 ≡ 0 → sibling r ≡ r + 1
 sibling_even r even = rw even refl
@@ -54,16 +54,17 @@ even_or_odd r = elim (cases_eq (r % 2) 0) [ inl e ↦ inl e | inr o ↦ inr (ome
 pub sibling_node : (params : Params) (k d r : ℕ) → IsNode params k (suc d) r → IsNode params k (suc d) (sibling r)
 sibling_node params k d r at =
     elim (even_or_odd r) [
-      inl even ↦ rw (sibling_even r even) (record {
+      | inl even ↦ rw (sibling_even r even) (record {
         levels = at.levels;
         from = omega (arith, at.from);
         below = omega (arith, at.below, pow-double d);
       })
-    | inr odd ↦ rw (sibling_odd r odd) (record {
+      | inr odd ↦ rw (sibling_odd r odd) (record {
         levels = at.levels;
         from = omega (arith, at.from, pow-double d);
         below = omega (arith, at.below);
-      }) ]
+      })
+    ]
 
 -- a node's number is in the list
 pub node-positive : (params : Params) (k d r : ℕ) → IsNode params k d r → 0 < r
@@ -73,6 +74,11 @@ pub node-below : (params : Params) (k d r : ℕ) → IsNode params k d r → r <
 node-below params k d r at =
     let wide : 2 ^ d ≤ 2 ^ height params.lms = rw (← at.levels) (pow-le_add d k) in
     omega (arith, at.below, wide)
+
+pub leaf_count-positive : (params : Params) → 0 < leaf_count params.lms
+leaf_count-positive params =
+    let whole : height params.lms + 0 ≡ height params.lms = omega arith in
+    omega (arith, rw whole at (pow-le_add 0 (height params.lms)))
 
 -- a leaf stands at level 0, and a node from the first leaf on is a leaf
 pub leaf_node : (params : Params) (q : ℕ) → q < leaf_count params.lms → IsNode params 0 (height params.lms) (leaf_count params.lms + q)
@@ -94,12 +100,13 @@ pub leaf-step : (params : Params) (SEED I : List ℕ) (nodes : List (List ℕ)) 
 unfolding T
 leaf-step params SEED I nodes q value size below before same r from to =
     elim (cases_eq r (leaf_count params.lms + q)) [
-      inl e ↦
-        let room : leaf_count params.lms + q < length nodes = omega arith in
-        let number : leaf_count params.lms + q - leaf_count params.lms ≡ q = omega arith in
-        rw (e, number, get_or-set_same nodes (leaf_count params.lms + q) value [] room) same
-    | inr other ↦
-        rw (get_or-set_other nodes (leaf_count params.lms + q) r value [] other) (before r from (omega arith)) ]
+      | inl e ↦
+          let room : leaf_count params.lms + q < length nodes = omega arith in
+          let number : leaf_count params.lms + q - leaf_count params.lms ≡ q = omega arith in
+          rw (e, number, get_or-set_same nodes (leaf_count params.lms + q) value [] room) same
+      | inr other ↦
+          rw (get_or-set_other nodes (leaf_count params.lms + q) r value [] other) (before r from (omega arith))
+    ]
 
 -- once all leaves are there, the nodes from the first leaf on are
 pub leaves-all : (params : Params) (SEED I : List ℕ) (nodes : List (List ℕ)) (q : ℕ) → leaf_count params.lms ≤ q →
@@ -122,10 +129,11 @@ inner-step params SEED I nodes m n value next positive inside room before same z
     rw (get_or-set_other nodes m r value [] other) (before zero d r at (omega arith))
 inner-step params SEED I nodes m n value next positive inside room before same (suc k) d r at from =
     elim (cases_eq r m) [
-      inl e ↦
-        let here : IsNode params (suc k) d m = rw e at at in
-        let left = before k (suc d) (2 * m) (left_child params k d m here) (omega arith) in
-        let right = before k (suc d) (2 * m + 1) (right_child params k d m here) (omega arith) in
-        rw (e, get_or-set_same nodes m value [] room, ← left, ← right) same
-    | inr other ↦
-        rw (get_or-set_other nodes m r value [] other) (before (suc k) d r at (omega arith)) ]
+      | inl e ↦
+          let here : IsNode params (suc k) d m = rw e at at in
+          let left = before k (suc d) (2 * m) (left_child params k d m here) (omega arith) in
+          let right = before k (suc d) (2 * m + 1) (right_child params k d m here) (omega arith) in
+          rw (e, get_or-set_same nodes m value [] room, ← left, ← right) same
+      | inr other ↦
+          rw (get_or-set_other nodes m r value [] other) (before (suc k) d r at (omega arith))
+    ]

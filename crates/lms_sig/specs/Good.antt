@@ -39,7 +39,7 @@ first_bad_under None key message signature = Some OtherKey
 first_bad_under (Some params) key message signature =
     unless (length signature == signature_length params) Length
     (unless ((u32_at signature 4 == ots_code params.ots)
-        && (u32_at signature (4 + ots_length params.ots) == lms_code params.lms)) OtherParameters
+    && (u32_at signature (4 + ots_length params.ots) == lms_code params.lms)) OtherParameters
     (unless (nat_lt (u32_at signature 0) (leaf_count params.lms)) LeafRange
     (unless (bytes_eq (recomputed_root params (key_id key) message signature) (key_root key)) Root
     None)))

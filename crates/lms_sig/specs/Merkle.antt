@@ -66,4 +66,4 @@ recomputed_root params I message signature =
     let q = u32_at signature 0 in
     let Kc = Kc params.ots I q message (part signature 4 (ots_length params.ots)) in
     climb I (leaf_count params.lms + q) (leaf I (leaf_count params.lms + q) Kc)
-        (drop (8 + ots_length params.ots) signature) (height params.lms)
+    (drop (8 + ots_length params.ots) signature) (height params.lms)

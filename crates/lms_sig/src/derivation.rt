@@ -8,7 +8,6 @@ ghost use Rattle.lms_sig.specs.Strings.{u32str};
 use crate::hash::u32_bytes;
 use sha2::{Digest, Sha256};
 
-
 /// The seed (32 bytes) and the identifier (16 bytes) of the key with this index, from a host's 32
 /// secret bytes. It takes no memory.
 pub fn derive(secret: &[u8; 32], index: u32) -> ([u8; 32], [u8; 16])

@@ -11,6 +11,7 @@ use sha2::{Digest, Sha256};
 pub(crate) const PREFIX: usize = 22;
 
 const LEAF: u16 = 0x8282;
+
 const INNER: u16 = 0x8383;
 
 pub(crate) fn u32_bytes(n: u32) -> [u8; 4]

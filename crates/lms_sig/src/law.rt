@@ -12,5 +12,4 @@ pub fn signatures_are_good()
     ensures { (params : Params) (seed id message : List ℕ) (q : ℕ) → length id ≡ 16
         → q < leaf_count params.lms
         → IsGood (public_key params seed id) message (signature params seed id q message) }
-{
-}
+{}

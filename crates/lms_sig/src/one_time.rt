@@ -12,6 +12,7 @@ use sha2::{Digest, Sha256};
 use std::alloc::AllocError;
 
 const PUBLIC: u16 = 0x8080;
+
 const MESSAGE: u16 = 0x8181;
 
 // The one-time public key of leaf `q`.

@@ -27,8 +27,6 @@ pub struct Params {
 }
 
 impl LmsType {
-
-
     // The type that a typecode names.
     pub(crate) fn of_code(code: u32) -> Option<LmsType>
         ensures { result ≡ lms_type code }

@@ -61,17 +61,12 @@ fn fill_inner(nodes: &mut [[u8; 32]], id: &[u8; 16], leaves: u32)
 }
 
 // Appends the siblings of the nodes from leaf `q` up to the root's children.
-fn put_path(
-    out: &mut Vec<u8>,
-    params: Params,
-    nodes: &[[u8; 32]],
-    q: u32,
-) -> Result<(), AllocError>
+fn put_path(out: &mut Vec<u8>, params: Params, nodes: &[[u8; 32]], q: u32) -> Result<(), AllocError>
     requires leaf { q < leaf_count params.lms }
     requires size { length nodes.now ≡ 2 * leaf_count params.lms }
     ensures { (seed id : List ℕ) → HoldsFrom params seed id nodes.now 1
         → OnOk result (out.new.items ≡ out.old.items
-            ++ path params seed id 0 (leaf_count params.lms + q) (height params.lms)) }
+        ++ path params seed id 0 (leaf_count params.lms + q) (height params.lms)) }
 {
     let mut node = (params.lms.leaf_count() + q) as usize;
     'levels: for _level in 0..params.lms.height() {

@@ -1,11 +1,12 @@
 //! Testing a signature (RFC 8554, section 5.4.2).
 
-ghost use Rattle.std.specs.Prelude.{◌≡◌, ◌↔◌, ◌+◌, ◌<◌, IsOk, drop, length, Some};
+ghost use Rattle.std.specs.Prelude.{◌≡◌, ◌↔◌, ◌<◌, IsOk, Some, length};
 ghost use Rattle.std.specs.Result.{result_err};
-ghost use Rattle.lms_sig.specs.Good.{IsGood, first_bad, first_bad_under, key_types};
+ghost use Rattle.std.specs.Str.{bytes_eq};
+ghost use Rattle.lms_sig.specs.Good.{IsGood, first_bad, first_bad_under, key_id, key_root, key_types};
 ghost use Rattle.lms_sig.specs.Merkle.{recomputed_root};
-ghost use Rattle.lms_sig.specs.Parameters.{leaf_count, signature_length};
-ghost use Rattle.lms_sig.specs.Strings.{part, u32_at};
+ghost use Rattle.lms_sig.specs.Parameters.{both_types, leaf_count, signature_length};
+ghost use Rattle.lms_sig.specs.Strings.{u32_at};
 
 use crate::hash::{leaf_hash, read_u32};
 use crate::one_time::candidate_key;
@@ -33,13 +34,24 @@ pub enum Bad {
     Root,
 }
 
+// Both types, where both are known.
+fn both(lms: Option<LmsType>, ots: Option<OtsType>) -> Option<Params>
+    ensures { result ≡ both_types lms ots }
+{
+    match (lms, ots) {
+        (Some(lms), Some(ots)) => Some(Params { lms, ots }),
+        _ => None,
+    }
+}
+
 // The types that a public key names.
 fn types_of(key: &[u8; 56]) -> Option<Params>
     ensures { result ≡ key_types key.now }
 {
-    let lms = LmsType::of_code(read_u32(key, 0))?;
-    let ots = OtsType::of_code(read_u32(key, 4))?;
-    Some(Params { lms, ots })
+    both(
+        LmsType::of_code(read_u32(key, 0)),
+        OtsType::of_code(read_u32(key, 4)),
+    )
 }
 
 // The root that follows from a message and its signature.
@@ -62,13 +74,21 @@ fn root_of(params: Params, id: &[u8; 16], message: &[u8], signature: &[u8]) -> [
     )
 }
 
+// Whether the root that follows is the key's.
+fn leads_to_root(params: Params, key: &[u8; 56], message: &[u8], signature: &[u8]) -> bool
+    requires size { length signature.now ≡ signature_length params }
+    requires leaf { u32_at signature.now 0 < leaf_count params.lms }
+    ensures { result ≡ bytes_eq
+        (recomputed_root params (key_id key.now) message.now signature.now) (key_root key.now) }
+{
+    let mut id = [0u8; 16];
+    id.copy_from_slice(&key[8..24]);
+    let root = root_of(params, &id, message, signature);
+    root.as_slice() == &key[24..]
+}
+
 // The first thing wrong with a signature under a key with these types.
-fn checked(
-    params: Params,
-    key: &[u8; 56],
-    message: &[u8],
-    signature: &[u8],
-) -> Result<(), Bad>
+fn checked(params: Params, key: &[u8; 56], message: &[u8], signature: &[u8]) -> Result<(), Bad>
     ensures { result_err result ≡ first_bad_under (Some params) key.now message.now signature.now }
 {
     if signature.len() != params.signature_length() {
@@ -83,10 +103,7 @@ fn checked(
     if read_u32(signature, 0) >= params.lms.leaf_count() {
         return Err(Bad::LeafRange);
     }
-    let mut id = [0u8; 16];
-    id.copy_from_slice(&key[8..24]);
-    let root = root_of(params, &id, message, signature);
-    if root.as_slice() != &key[24..] {
+    if !leads_to_root(params, key, message, signature) {
         return Err(Bad::Root);
     }
     Ok(())

@@ -1,4 +1,4 @@
-use Rattle.std.proofs.Common.{◌≡◌, ◌-◌, refl, ap, ◌∙◌, sym, arith}
+use Rattle.std.proofs.Common.{◌≡◌, ◌-◌, refl, ◌∙◌, sym, arith}
 use Rattle.lms_sig.proofs.Chains.{steps-more}
 use Rattle.lms_sig.specs.OneTime.{step, steps}
 use Rattle.lms_sig.proofs.chain.chain.Goals as goal

@@ -1,4 +1,3 @@
-use Rattle.std.proofs.Common.{rules}
 use Rattle.lms_sig.specs.Keys.{derived_id, derived_seed}
 use Rattle.lms_sig.proofs.derivation.derive.Goals as goal
 

@@ -6,4 +6,4 @@ pub returns : goal.returns
 unfolding inner
 returns c =
     rw c.prefix.ensures at
-        (c.finalize.ensures _ (c.update-3.ensures _ (c.update-2.ensures _ (c.update.ensures [] c.new-hasher.ensures))))
+    (c.finalize.ensures _ (c.update-3.ensures _ (c.update-2.ensures _ (c.update.ensures [] c.new-hasher.ensures))))

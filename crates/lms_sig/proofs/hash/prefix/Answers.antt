@@ -1,4 +1,4 @@
-use Rattle.std.proofs.Common.{◌≡◌, ◌++◌, ap, length, take, refl, arith}
+use Rattle.std.proofs.Common.{◌≡◌, ap, length, take, arith}
 use Rattle.lms_sig.proofs.Pieces.{front_all, front_more}
 use Rattle.lms_sig.specs.Strings.{u16str, u32str}
 use Rattle.lms_sig.proofs.hash.prefix.Goals as goal

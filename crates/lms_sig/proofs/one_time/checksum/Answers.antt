@@ -1,4 +1,4 @@
-use Rattle.std.proofs.Common.{◌≡◌, ◌≤◌, ◌*◌, refl, sym, ap, ◌∙◌, arith}
+use Rattle.std.proofs.Common.{◌≡◌, ◌≤◌, ◌*◌, refl, ap, ◌∙◌, arith}
 use Rattle.lms_sig.specs.OneTime.{Cksm, missing}
 use Rattle.lms_sig.specs.Parameters.{chain_length}
 use Rattle.lms_sig.specs.declared.params.OtsType.TheVariants.{W4, W8}
@@ -11,19 +11,32 @@ digits-init c = refl
 
 pub overflow_add-sum : goal.overflow_add-sum
 overflow_add-sum c =
-    omega (arith, c.digits.invariant, chain_length-bound c.args.ots, hash_digits-bound c.args.ots,
-        missing-bound c.args.ots c.args.hash.now c.digits.i 255 (chain_length-bound c.args.ots))
+    omega (
+      arith,
+      c.digits.invariant,
+      chain_length-bound c.args.ots,
+      hash_digits-bound c.args.ots,
+      missing-bound c.args.ots c.args.hash.now c.digits.i 255 (chain_length-bound c.args.ots),
+    )
 
 pub digits-preserved : goal.digits-preserved
 digits-preserved c =
-    rw (missing-more c.args.ots c.args.hash.now c.digits.i, ← c.chain_length-top.ensures,
-        ← c.coefficient.ensures.value, ← c.digits.invariant) refl
+    rw (
+      missing-more c.args.ots c.args.hash.now c.digits.i,
+      ← c.chain_length-top.ensures,
+      ← c.coefficient.ensures.value,
+      ← c.digits.invariant,
+    ) refl
 
 pub overflow_mul-result : goal.overflow_mul-result
 overflow_mul-result c =
     let top : chain_length c.args.ots ≤ 15 = rw c.in-W4.is (omega arith) in
-    omega (arith, c.digits.invariant, hash_digits-bound c.args.ots,
-        missing-bound c.args.ots c.args.hash.now c.digits.i 15 top)
+    omega (
+      arith,
+      c.digits.invariant,
+      hash_digits-bound c.args.ots,
+      missing-bound c.args.ots c.args.hash.now c.digits.i 15 top,
+    )
 
 pub returns-in-W4 : goal.returns-in-W4
 unfolding Cksm

@@ -1,4 +1,4 @@
-use Rattle.std.proofs.Common.{◌≡◌, ◌++◌, append_assoc}
+use Rattle.std.proofs.Common.{append_assoc}
 use Rattle.lms_sig.specs.OneTime.{ots_signature}
 use Rattle.lms_sig.proofs.one_time.put_one_time.Goals as goal
 

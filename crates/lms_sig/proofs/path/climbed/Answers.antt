@@ -1,5 +1,4 @@
-use Rattle.std.proofs.Common.{◌≡◌, ◌-◌, ◌*◌, drop, refl, sym, ◌∙◌, arith}
-use Rattle.lms_sig.specs.Merkle.{climb}
+use Rattle.std.proofs.Common.{◌≡◌, ◌-◌, refl, sym, ◌∙◌, arith}
 use Rattle.lms_sig.proofs.Climbs.{climb-none, climb-step}
 use Rattle.lms_sig.proofs.path.climbed.Goals as goal
 
