@@ -13,6 +13,8 @@ mod law;
 mod one_time;
 mod params;
 mod path;
+#[cfg(test)]
+mod tests;
 mod tree;
 mod verifying;
 
