@@ -8,3 +8,4 @@ pub mod Words
 pub mod OneTimes
 pub mod Roots
 pub mod Goods
+pub mod Worked

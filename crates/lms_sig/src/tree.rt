@@ -128,11 +128,12 @@ impl TreeKey {
 
     /// The signature of a message at leaf `q` (section 5.4.1): 4 + (36 + 32 p) + 4 + 32 h bytes. The
     /// same leaf must never sign two messages. The only error is that memory ran out.
-    pub fn sign_at(&self, alloc: Global, q: u32, message: &[u8]) -> Result<Vec<u8>, AllocError>
+    pub fn sign_at(&self, q: u32, message: &[u8]) -> Result<Vec<u8>, AllocError>
         requires { q < leaf_count self.now.params.lms }
         ensures { IfOk result (λ made. made.items
             ≡ signature self.now.params self.now.seed self.now.id q message.now) }
     {
+        let alloc = *self.nodes.allocator();
         let mut out = Vec::with_capacity(alloc, self.params.signature_length())?;
         out.extend_from_slice(&u32_bytes(q))?;
         put_one_time(&mut out, self.params.ots, &self.seed, &self.id, q, message)?;
