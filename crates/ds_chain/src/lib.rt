@@ -1,0 +1,6 @@
+//! Chains of certificates: who holds a category, and by which certificates.
+#![tactic(auto)]
+
+mod hop;
+
+pub use hop::Hop;
