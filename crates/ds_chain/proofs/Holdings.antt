@@ -146,7 +146,7 @@ module _ {K : Type 0} (hops : List (Option (Hop K))) (key : K) where
       from (others, a, q) = either others a q (cases_Bool (list_any (eqb place) others))
 
   -- where a chain leads, one no longer than the list does
-  short : (start : K) (places : List ℕ) → LeadsTo hops start places key → (others : List ℕ) × (length others ≤ length hops) × LeadsTo hops start others key
+  pub short : (start : K) (places : List ℕ) → LeadsTo hops start places key → (others : List ℕ) × (length others ≤ length hops) × LeadsTo hops start others key
   short start places p = let (others, a, q) = apart start places p in
       (others, length-le_from_distinct_below others (length hops) (distinct_from_apart others a) (chain_within start others q), q)
 

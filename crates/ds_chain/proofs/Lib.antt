@@ -1,3 +1,4 @@
 pub mod Chains
 pub mod Holdings
 pub mod Shortest
+pub mod Levels

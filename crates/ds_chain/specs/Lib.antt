@@ -1,3 +1,4 @@
 -- Chains of certificates from a category's creator to a key, and who holds a category by them.
 pub mod Chain
 pub mod Holding
+pub mod Distance

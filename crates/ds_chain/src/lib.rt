@@ -1,6 +1,7 @@
 //! Chains of certificates: who holds a category, and by which certificates.
 #![tactic(auto)]
 
+mod distance;
 mod hop;
 
 pub use hop::Hop;
