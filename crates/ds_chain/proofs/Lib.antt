@@ -2,3 +2,4 @@ pub mod Chains
 pub mod Holdings
 pub mod Shortest
 pub mod Levels
+pub mod Nearer

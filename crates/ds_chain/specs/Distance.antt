@@ -36,3 +36,14 @@ AreSettled hops key steps = (by : ℕ) → IsSettled hops key by (slice_index_or
 pub record IsNew (steps : List (Option ℕ)) (hop : Hop ℕ) (level : ℕ) : Type 0 where
   pub to : slice_index_or steps hop.to None ≡ Some level
   pub by : slice_index_or steps hop.by None ≡ None
+
+-- the hop leads from the key to one at a distance
+pub record IsNearer (steps : List (Option ℕ)) (by left : ℕ) (hop : Hop ℕ) : Type 0 where
+  pub to : slice_index_or steps hop.to None ≡ Some left
+  pub signer : hop.by ≡ by
+
+-- at the place stands the first hop from the key to one at a distance
+pub record IsFirstNearer (hops : List (Option (Hop ℕ))) (steps : List (Option ℕ)) (by left place next : ℕ) : Type 0 where
+  pub hop : IsHop hops place by next
+  pub left_over : slice_index_or steps next None ≡ Some left
+  pub first : (sooner other : ℕ) → sooner < place → IsHop hops sooner by other → slice_index_or steps other None ≡ Some left → ⊥

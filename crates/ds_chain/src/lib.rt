@@ -3,5 +3,6 @@
 
 mod distance;
 mod hop;
+mod walk;
 
 pub use hop::Hop;
