@@ -3,6 +3,7 @@
 
 mod distance;
 mod hop;
+mod search;
 mod walk;
 
 pub use hop::Hop;

@@ -43,9 +43,8 @@ fn first_nearer(hops: &[Option<Hop<u32>>], steps: &[Option<u32>], by: u32, left:
     None
 }
 
-/// The shortest chain from the creator's key, of `count` hops, to the key that the distances are from.
-pub fn walk(alloc: Global, hops: &[Option<Hop<u32>>], steps: &[Option<u32>], creator: u32, count: u32) -> Result<Vec<u32>, AllocError>
-    ghost key: { ℕ }
+/// The shortest chain, of `count` hops, from the creator's key to the key that the distances lead to.
+pub fn walk(alloc: Global, hops: &[Option<Hop<u32>>], steps: &[Option<u32>], creator: u32, key: u32, count: u32) -> Result<Vec<u32>, AllocError>
     requires few { length hops.now < 2 ^ 32 }
     requires hops { AreBelow (length steps.now) hops.now }
     requires settled { AreSettled hops.now key steps.now }
@@ -59,5 +58,6 @@ pub fn walk(alloc: Global, hops: &[Option<Hop<u32>>], steps: &[Option<u32>], cre
         chain.push(step.place)?;
         by = step.to;
     }
+    prove!(by == key);
     Ok(chain)
 }

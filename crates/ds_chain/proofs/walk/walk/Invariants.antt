@@ -4,9 +4,9 @@ use Rattle.ds_chain.specs.Distance.{AreSettled}
 use Rattle.ds_chain.proofs.walk.walk.Given as goal
 
 abbrev pub invariant-loop-walked : goal.invariant-loop-walked
-invariant-loop-walked g l =
+invariant-loop-walked l =
     record {
-      settled : AreSettled l.hops g.key l.steps;
+      settled : AreSettled l.hops l.key l.steps;
       at : slice_index_or l.steps l.by None ≡ Some (l.count - l.walked);
-      rest : (tail : List ℕ) → IsShortestChain l.hops l.by tail g.key → IsShortestChain l.hops l.creator (l.chain.items ++ tail) g.key
+      rest : (tail : List ℕ) → IsShortestChain l.hops l.by tail l.key → IsShortestChain l.hops l.creator (l.chain.items ++ tail) l.key
     }
