@@ -3,3 +3,4 @@ pub mod Holdings
 pub mod Shortest
 pub mod Levels
 pub mod Nearer
+pub mod Names

@@ -2,3 +2,4 @@
 pub mod Chain
 pub mod Holding
 pub mod Distance
+pub mod Naming

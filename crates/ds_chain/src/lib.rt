@@ -3,7 +3,9 @@
 
 mod distance;
 mod hop;
+mod key;
 mod search;
 mod walk;
 
 pub use hop::Hop;
+pub use key::PubKey;
