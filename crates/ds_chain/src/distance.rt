@@ -6,19 +6,19 @@ use crate::hop::Hop;
 use std::alloc::{AllocError, Global};
 
 /// Whether the hop leads to a key at this level from a key whose distance isn't known.
-fn is_new(steps: &[Option<u32>], hop: &Hop<u32>, level: u32) -> bool
+fn is_new(steps: &[Option<u32>], hop: &Hop<usize>, level: u32) -> bool
     requires by { hop.now.by < length steps.now }
     requires to { hop.now.to < length steps.now }
     ensures { IsTrue result ↔ IsNew steps.now hop.now level }
 {
-    match (steps[hop.to as usize], steps[hop.by as usize]) {
+    match (steps[hop.to], steps[hop.by]) {
         (Some(n), None) => n == level,
         _ => false,
     }
 }
 
 /// Writes down the distance of each key at the next level. Whether there is one.
-fn add_level(hops: &[Option<Hop<u32>>], steps: &mut [Option<u32>], level: u32) -> bool
+fn add_level(hops: &[Option<Hop<usize>>], steps: &mut [Option<u32>], level: u32) -> bool
     requires level { level + 1 < 2 ^ 32 }
     requires hops { AreBelow (length steps.old) hops.now }
     ensures known { (key : ℕ) → AreKnown hops.now key level steps.old → AreKnown hops.now key (level + 1) steps.new }
@@ -28,7 +28,7 @@ fn add_level(hops: &[Option<Hop<u32>>], steps: &mut [Option<u32>], level: u32) -
     for entry in hops {
         if let Some(hop) = entry {
             if is_new(steps, hop, level) {
-                steps[hop.by as usize] = Some(level + 1);
+                steps[hop.by] = Some(level + 1);
                 found = true;
             }
         }
@@ -37,7 +37,7 @@ fn add_level(hops: &[Option<Hop<u32>>], steps: &mut [Option<u32>], level: u32) -
 }
 
 /// Goes on from the key alone to the distance of each key that a chain leads from.
-fn settle(hops: &[Option<Hop<u32>>], steps: &mut [Option<u32>])
+fn settle(hops: &[Option<Hop<usize>>], steps: &mut [Option<u32>])
     requires few { length hops.now < 2 ^ 32 }
     requires hops { AreBelow (length steps.old) hops.now }
     ensures settled { (key : ℕ) → AreKnown hops.now key 0 steps.old → AreSettled hops.now key steps.new }
@@ -50,7 +50,7 @@ fn settle(hops: &[Option<Hop<u32>>], steps: &mut [Option<u32>])
 }
 
 /// The distance of each of `count` keys from `key`.
-pub fn distances(alloc: Global, hops: &[Option<Hop<u32>>], count: usize, key: u32) -> Result<Vec<Option<u32>>, AllocError>
+pub fn distances(alloc: Global, hops: &[Option<Hop<usize>>], count: usize, key: usize) -> Result<Vec<Option<u32>>, AllocError>
     requires few { length hops.now < 2 ^ 32 }
     requires hops { AreBelow count hops.now }
     requires key { key < count }
@@ -58,7 +58,7 @@ pub fn distances(alloc: Global, hops: &[Option<Hop<u32>>], count: usize, key: u3
     ensures count { IfOk result (λ steps. length steps.items ≡ count) }
 {
     let mut steps = vec![in alloc; None; count]?;
-    steps[key as usize] = Some(0);
+    steps[key] = Some(0);
     settle(hops, &mut steps);
     Ok(steps)
 }

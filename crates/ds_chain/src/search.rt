@@ -10,10 +10,10 @@ use std::alloc::{AllocError, Global};
 /// The shortest chain from one key to another, of `count` keys that go by numbers, or none where no chain leads there.
 pub fn search_numbers(
     alloc: Global,
-    hops: &[Option<Hop<u32>>],
+    hops: &[Option<Hop<usize>>],
     count: usize,
-    creator: u32,
-    key: u32,
+    creator: usize,
+    key: usize,
 ) -> Result<Option<Vec<u32>>, AllocError>
     requires few { length hops.now < 2 ^ 32 }
     requires hops { AreBelow count hops.now }
@@ -23,7 +23,7 @@ pub fn search_numbers(
     ensures none { IfOk result (λ answer. IfNone answer ((places : List ℕ) → LeadsTo hops.now creator places key → ⊥)) }
 {
     let steps = distances(alloc, hops, count, key)?;
-    match steps[creator as usize] {
+    match steps[creator] {
         Some(left) => {
             let chain = walk(alloc, hops, &steps, creator, key, left)?;
             Ok(Some(chain))

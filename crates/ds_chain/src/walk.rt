@@ -9,22 +9,22 @@ use std::alloc::{AllocError, Global};
 #[derive(Clone, Copy)]
 struct Step {
     place: u32,
-    to: u32,
+    to: usize,
 }
 
 /// Whether the hop leads from the key `by` to one that `left` more hops lead from.
-fn is_nearer(steps: &[Option<u32>], hop: &Hop<u32>, by: u32, left: u32) -> bool
+fn is_nearer(steps: &[Option<u32>], hop: &Hop<usize>, by: usize, left: u32) -> bool
     requires { hop.now.to < length steps.now }
     ensures { IsTrue result ↔ IsNearer steps.now by left hop.now }
 {
-    match steps[hop.to as usize] {
+    match steps[hop.to] {
         Some(n) => n == left && hop.by == by,
         None => false,
     }
 }
 
 /// The first hop that leads from the key `by` to one that `left` more hops lead from.
-fn first_nearer(hops: &[Option<Hop<u32>>], steps: &[Option<u32>], by: u32, left: u32) -> Option<Step>
+fn first_nearer(hops: &[Option<Hop<usize>>], steps: &[Option<u32>], by: usize, left: u32) -> Option<Step>
     requires few { length hops.now < 2 ^ 32 }
     requires hops { AreBelow (length steps.now) hops.now }
     ensures found { IfSome result (λ step. IsFirstNearer hops.now steps.now by left step.place step.to) }
@@ -44,7 +44,7 @@ fn first_nearer(hops: &[Option<Hop<u32>>], steps: &[Option<u32>], by: u32, left:
 }
 
 /// The shortest chain, of `count` hops, from the creator's key to the key that the distances lead to.
-pub fn walk(alloc: Global, hops: &[Option<Hop<u32>>], steps: &[Option<u32>], creator: u32, key: u32, count: u32) -> Result<Vec<u32>, AllocError>
+pub fn walk(alloc: Global, hops: &[Option<Hop<usize>>], steps: &[Option<u32>], creator: usize, key: usize, count: u32) -> Result<Vec<u32>, AllocError>
     requires few { length hops.now < 2 ^ 32 }
     requires hops { AreBelow (length steps.now) hops.now }
     requires settled { AreSettled hops.now key steps.now }
