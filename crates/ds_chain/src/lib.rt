@@ -4,6 +4,7 @@
 mod distance;
 mod hop;
 mod key;
+mod numbers;
 mod search;
 mod walk;
 
