@@ -4,3 +4,4 @@ pub mod Shortest
 pub mod Levels
 pub mod Nearer
 pub mod Names
+pub mod Numbered

@@ -1,9 +1,13 @@
-ghost use Rattle.std.specs.Prelude.{ℕ, List, ◌<◌, ◌^◌, length, IfOk, IfSome, IfNone};
+ghost use Rattle.std.specs.Prelude.{ℕ, List, ◌<◌, ◌^◌, ◌↔◌, length, IsTrue, IsSome, IfOk, IfSome, IfNone};
 ghost use Rattle.ds_chain.specs.Chain.{LeadsTo, IsShortestChain};
 ghost use Rattle.ds_chain.specs.Distance.{AreBelow};
+ghost use Rattle.ds_chain.specs.Holding.{holds};
+ghost use Rattle.ds_chain.specs.Naming.{same_key, hops_of, AreNumbered};
 
 use crate::distance::distances;
 use crate::hop::Hop;
+use crate::key::PubKey;
+use crate::numbers::find_number;
 use crate::walk::walk;
 use std::alloc::{AllocError, Global};
 
@@ -30,4 +34,29 @@ pub fn search_numbers(
         }
         None => Ok(None),
     }
+}
+
+/// The shortest chain from the creator's key to another, or none where that key does not hold.
+pub fn search_keys(
+    alloc: Global,
+    keys: &[PubKey],
+    hops: &[Option<Hop<usize>>],
+    creator: &PubKey,
+    key: &PubKey,
+) -> Result<Option<Vec<u32>>, AllocError>
+    requires few { length hops.now < 2 ^ 32 }
+    requires numbered { AreNumbered keys.now hops.now }
+    ensures holds { IfOk result (λ answer. IsSome answer ↔ IsTrue (holds same_key (hops_of keys.now hops.now) creator.now key.now)) }
+    ensures shortest { IfOk result (λ answer. IfSome answer (λ chain. IsShortestChain (hops_of keys.now hops.now) creator.now chain.items key.now)) }
+{
+    if creator == key {
+        return Ok(Some(Vec::new(alloc)));
+    }
+    let Some(creator_number) = find_number(keys, creator) else {
+        return Ok(None);
+    };
+    let Some(key_number) = find_number(keys, key) else {
+        return Ok(None);
+    };
+    search_numbers(alloc, hops, keys.len(), creator_number, key_number)
 }

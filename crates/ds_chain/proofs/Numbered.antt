@@ -1,0 +1,96 @@
+-- Lists of certificates whose keys go by numbers: what stays as keys are added, and what a search over the numbers finds.
+use Rattle.std.proofs.Common.{◌≡◌, ℕ, ◌<◌, ◌≤◌, true, false, List, [], ◌∷◌, ◌++◌, length, map, refl, sym, ◌∙◌, ap, subst, arith}
+use Rattle.std.specs.Prelude.{Option, Some, None, IfSome, IfNone, IfOk, IsSome, IsTrue, OnErr, ◌↔◌, Result, Ok, Err, Vec, vec_items, nat_eq, option_map, All}
+use Rattle.std.specs.Bool.{Decides}
+use Rattle.std.specs.Cmp.Lexicographic.{pointwise, bytes_decides}
+use Rattle.std.proofs.lemmas.Bool.{false≢true}
+use Rattle.std.proofs.lemmas.List.{map_push}
+use Rattle.std.proofs.lemmas.List.Elements.{All-head, All-tail}
+use Rattle.std.specs.declared.alloc.Global.{Global}
+use Rattle.std.specs.declared.alloc.AllocError.{AllocError}
+use Rattle.ds_chain.specs.declared.hop.Hop.{Hop}
+use Rattle.ds_chain.specs.declared.key.PubKey.{PubKey}
+use Rattle.ds_chain.specs.Chain.{LeadsTo, IsShortestChain}
+use Rattle.ds_chain.specs.Holding.{IsSameness, holds}
+use Rattle.ds_chain.specs.Distance.{AreBelow}
+use Rattle.ds_chain.specs.Naming.{named_hop, IsNaming, same_key, key_of, hops_of, AreNumbered, HasNumber}
+use Rattle.ds_chain.proofs.Chains.{shortest_here}
+use Rattle.ds_chain.proofs.Holdings.{holds_by_chain, chain_of_holder}
+use Rattle.ds_chain.proofs.Names.{named_shortest, named_none, signer_named, end_named}
+
+pub same_key_is : IsSameness same_key
+same_key_is a b = (λ e. ap (λ (bytes : List ℕ). record { 0 = bytes }) ((bytes_decides a.0 b.0).0 e), λ e. (bytes_decides a.0 b.0).1 (ap (λ (k : PubKey). k.0) e))
+
+-- what holds either way holds where the result is an error
+pub on_error : {X E : Type 0} (r : Result X E) (P : Type 0) → P → OnErr r P
+on_error (Ok x) P p = tt
+on_error (Err e) P p = p
+
+-- as keys are added the certificates stay
+pub hops_kept : (old new : List PubKey) (hops : List (Option (Hop ℕ))) → AreBelow (length old) hops → ((k : ℕ) → k < length old → key_of new k ≡ key_of old k) → hops_of new hops ≡ hops_of old hops
+hops_kept old new [] below kept = refl
+hops_kept old new (entry ∷ hops) below kept =
+    let rest : hops_of new hops ≡ hops_of old hops = hops_kept old new hops (All-tail (λ (x : Option (Hop ℕ)). IfSome x (λ hop. (hop.by < length old) × (hop.to < length old))) entry hops below) kept in
+    let first : named_hop (key_of new) entry ≡ named_hop (key_of old) entry = same entry (All-head (λ (x : Option (Hop ℕ)). IfSome x (λ hop. (hop.by < length old) × (hop.to < length old))) entry hops below) in
+    cc
+  where
+    same : (x : Option (Hop ℕ)) → IfSome x (λ hop. (hop.by < length old) × (hop.to < length old)) → named_hop (key_of new) x ≡ named_hop (key_of old) x
+    same None l = refl
+    same (Some hop) l =
+        let b : key_of new hop.by ≡ key_of old hop.by = kept hop.by l.0 in
+        let t : key_of new hop.to ≡ key_of old hop.to = kept hop.to l.1 in
+        cc
+
+-- the same over two keys
+pub kept_over : (old middle new : List PubKey) (hops : List (Option (Hop ℕ))) (by to : PubKey) (n m : ℕ) → AreBelow (length old) hops → HasNumber old middle by n → HasNumber middle new to m → hops_of new hops ≡ hops_of old hops
+kept_over old middle new hops by to n m below h k = hops_kept old new hops below (λ i l. let g : length old ≤ length middle = h.longer in k.kept i (omega arith) ∙ h.kept i l)
+
+-- one certificate more, whose keys have numbers
+pub hops_push : (old middle new : List PubKey) (hops : List (Option (Hop ℕ))) (by to : PubKey) (n m : ℕ) → AreBelow (length old) hops → HasNumber old middle by n → HasNumber middle new to m
+    → hops_of new (hops ++ Some (record { by = n; to = m }) ∷ []) ≡ hops_of old hops ++ Some (record { by = by; to = to }) ∷ []
+hops_push old middle new hops by to n m below h k =
+    let pushed : hops_of new (hops ++ Some (record { by = n; to = m }) ∷ []) ≡ hops_of new hops ++ Some (record { by = key_of new n; to = key_of new m }) ∷ [] = map_push (named_hop (key_of new)) hops (Some (record { by = n; to = m })) in
+    let kept : hops_of new hops ≡ hops_of old hops = kept_over old middle new hops by to n m below h k in
+    let b : key_of new n ≡ by = k.kept n h.within ∙ h.named in
+    let t : key_of new m ≡ to = k.named in
+    cc
+
+module _ (keys : List PubKey) (hops : List (Option (Hop ℕ))) (numbered : AreNumbered keys hops) (creator key : PubKey) where
+  -- a search over the numbers answers for the keys
+  pub answers_hold : (n m : ℕ) → n < length keys → m < length keys → key_of keys n ≡ creator → key_of keys m ≡ key → (result : Result (Option (Vec ℕ Global)) AllocError)
+      → IfOk result (λ answer. IfSome answer (λ chain. IsShortestChain hops n chain.items m)) → IfOk result (λ answer. IfNone answer ((places : List ℕ) → LeadsTo hops n places m → ⊥))
+      → IfOk result (λ answer. IsSome answer ↔ IsTrue (holds same_key (hops_of keys hops) creator key))
+  answers_hold n m ln lm en em (Err e) p q = tt
+  answers_hold n m ln lm en em (Ok None) p q =
+      (λ e. absurd (false≢true e),
+        λ e. let (places, l) = chain_of_holder same_key same_key_is (hops_of keys hops) creator key e in
+            absurd (named_none (key_of keys) (length keys) numbered.naming hops numbered.below n m ln lm q places
+                (subst (λ (k : PubKey). LeadsTo (hops_of keys hops) (key_of keys n) places k) (sym em) (subst (λ (k : PubKey). LeadsTo (hops_of keys hops) k places key) (sym en) l))))
+  answers_hold n m ln lm en em (Ok (Some chain)) p q =
+      (λ e. holds_by_chain same_key same_key_is (hops_of keys hops) creator key chain.items
+          (subst (λ (k : PubKey). LeadsTo (hops_of keys hops) creator chain.items k) em (subst (λ (k : PubKey). LeadsTo (hops_of keys hops) k chain.items (key_of keys m)) en
+              (named_shortest (key_of keys) (length keys) numbered.naming hops numbered.below n m chain.items ln lm p).leads)),
+        λ e. refl)
+
+  pub answers_shortest : (n m : ℕ) → n < length keys → m < length keys → key_of keys n ≡ creator → key_of keys m ≡ key → (result : Result (Option (Vec ℕ Global)) AllocError)
+      → IfOk result (λ answer. IfSome answer (λ chain. IsShortestChain hops n chain.items m))
+      → IfOk result (λ answer. IfSome answer (λ chain. IsShortestChain (hops_of keys hops) creator chain.items key))
+  answers_shortest n m ln lm en em (Err e) p = tt
+  answers_shortest n m ln lm en em (Ok None) p = tt
+  answers_shortest n m ln lm en em (Ok (Some chain)) p =
+      subst (λ (k : PubKey). IsShortestChain (hops_of keys hops) creator chain.items k) em (subst (λ (k : PubKey). IsShortestChain (hops_of keys hops) k chain.items (key_of keys m)) en
+          (named_shortest (key_of keys) (length keys) numbered.naming hops numbered.below n m chain.items ln lm p))
+
+  pub no_signer : (creator ≡ key → ⊥) → ((n : ℕ) → n < length keys → key_of keys n ≡ creator → ⊥) → IsTrue (holds same_key (hops_of keys hops) creator key) → ⊥
+  no_signer apart none e = let (places, l) = chain_of_holder same_key same_key_is (hops_of keys hops) creator key e in
+      let (n, w, q) = signer_named (key_of keys) (length keys) numbered.naming hops numbered.below creator key places apart l in none n w q
+
+  pub no_end : (creator ≡ key → ⊥) → ((n : ℕ) → n < length keys → key_of keys n ≡ key → ⊥) → IsTrue (holds same_key (hops_of keys hops) creator key) → ⊥
+  no_end apart none e = let (places, l) = chain_of_holder same_key same_key_is (hops_of keys hops) creator key e in
+      let (n, w, q) = end_named (key_of keys) (length keys) numbered.naming hops numbered.below creator key places apart l in none n w q
+
+pub holds_creator : (hops : List (Option (Hop PubKey))) (creator key : PubKey) → creator ≡ key → IsTrue (holds same_key hops creator key)
+holds_creator hops creator key e = holds_by_chain same_key same_key_is hops creator key [] e
+
+pub shortest_creator : (hops : List (Option (Hop PubKey))) (creator key : PubKey) (places : List ℕ) → creator ≡ key → places ≡ [] → IsShortestChain hops creator places key
+shortest_creator hops creator key places e f = subst (λ (l : List ℕ). IsShortestChain hops creator l key) (sym f) (subst (λ (k : PubKey). IsShortestChain hops creator [] k) e (shortest_here hops creator))
