@@ -1,6 +1,7 @@
 -- Holding and chains: a key holds exactly where a chain leads to it, and a closed set has every key that holds.
 use Rattle.std.proofs.Common.{◌≡◌, ◌≢◌, ℕ, zero, suc, ◌+◌, ◌<◌, ◌≤◌, Bool, true, false, cond, List, [], ◌∷◌, ◌++◌, length, get_or, refl, sym, ◌∙◌, ap, subst, ◌⊎◌, inl, inr, arith, eqb, eqb-true, eq-eqb}
-use Rattle.std.specs.Prelude.{Option, Some, None, slice_get, filter_map, IsTrue, ◌||◌, Contains, slice_index_or}
+use Rattle.std.specs.Prelude.{Option, Some, None, slice_get, filter_map, IsTrue, ◌||◌, All}
+use Rattle.std.proofs.lemmas.List.Elements.{All-from_recursion}
 use Rattle.std.specs.List.{list_any, IsDistinct, AllByRecursion, cons_option}
 use Rattle.std.specs.Bool.{Decides}
 use Rattle.std.proofs.lemmas.List.Folds.{list_any-append}
@@ -168,6 +169,14 @@ module _ {K : Type 0} (same : K → K → Bool) (is_same : IsSameness same) (hop
 
       from : (start : K) × (is_among same (creator ∷ []) start ≡ true) × (places : List ℕ) × LeadsTo hops start places key → (places : List ℕ) × LeadsTo hops creator places key
       from (start, m, places, p) = (places, subst (λ (z : K). LeadsTo hops z places key) (first start (or_cases (same start creator) false m)) p)
+
+-- A chain's places are places of the list.
+pub places_within : {K : Type 0} (hops : List (Option (Hop K))) (creator key : K) (places : List ℕ) → LeadsTo hops creator places key → All (λ place. place < length hops) places
+places_within {K} hops creator key places p = All-from_recursion (λ place. place < length hops) places (each creator places p)
+  where
+    each : (by : K) (places : List ℕ) → LeadsTo hops by places key → AllByRecursion (λ place. place < length hops) places
+    each by [] p = tt
+    each by (place ∷ places) (x, h, p) = (hop_within hops place by x h, each x places p)
 
 -- A set that has the creator's key, and with the signer of each certificate that counts also the key that it names, has each key that holds.
 pub closed_set_has_holders : {K : Type 0} (same : K → K → Bool) (is_same : IsSameness same) (hops : List (Option (Hop K))) (creator : K) (Within : K → Type 0) → Within creator

@@ -3,6 +3,7 @@ ghost use Rattle.ds_chain.specs.Chain.{IsShortestChain};
 ghost use Rattle.ds_chain.specs.Holding.{holds};
 ghost use Rattle.ds_chain.specs.Naming.{same_key};
 
+use crate::chain::Chain;
 use crate::hop::Hop;
 use crate::key::PubKey;
 use crate::numbers::number_of;
@@ -63,11 +64,12 @@ impl HopList {
 
     /// The places of the shortest chain from the creator's key to another, and of the least of these, or none where the
     /// key does not hold. The creator's own chain is empty.
-    pub fn search(&self, alloc: Global, creator: &PubKey, key: &PubKey) -> Result<Option<Vec<u32>>, AllocError>
+    pub fn search(&self, alloc: Global, creator: &PubKey, key: &PubKey) -> Result<Option<Chain>, AllocError>
         requires { length self.now < 2 ^ 32 }
         ensures holds { IfOk result (λ answer. IsSome answer ↔ IsTrue (holds same_key self.now creator.now key.now)) }
-        ensures shortest { IfOk result (λ answer. IfSome answer (λ chain. IsShortestChain self.now creator.now chain.items key.now)) }
+        ensures shortest { IfOk result (λ answer. IfSome answer (λ chain. IsShortestChain self.now creator.now chain key.now)) }
     {
-        search_keys(alloc, &self.keys, &self.hops, creator, key)
+        let places = search_keys(alloc, &self.keys, &self.hops, creator, key)?;
+        Ok(places.map(Chain::new))
     }
 }
