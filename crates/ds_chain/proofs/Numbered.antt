@@ -9,7 +9,7 @@ use Rattle.std.proofs.lemmas.List.Elements.{All-head, All-tail}
 use Rattle.std.specs.declared.alloc.Global.{Global}
 use Rattle.std.specs.declared.alloc.AllocError.{AllocError}
 use Rattle.ds_chain.specs.declared.hop.Hop.{Hop}
-use Rattle.ds_chain.specs.declared.key.PubKey.{PubKey}
+use Rattle.ds_label.specs.declared.category.PubKey.{PubKey}
 use Rattle.ds_chain.specs.Chain.{LeadsTo, IsShortestChain}
 use Rattle.ds_chain.specs.Holding.{IsSameness, holds}
 use Rattle.ds_chain.specs.Distance.{AreBelow}

@@ -2,7 +2,7 @@
 use Rattle.std.specs.Prelude.{◌≡◌, ℕ, ◌<◌, ◌≤◌, Bool, List, [], length, Option, map, option_map, slice_index_or, nat_eq}
 use Rattle.std.specs.Cmp.Lexicographic.{pointwise}
 use Rattle.ds_chain.specs.declared.hop.Hop.{Hop}
-use Rattle.ds_chain.specs.declared.key.PubKey.{PubKey}
+use Rattle.ds_label.specs.declared.category.PubKey.{PubKey}
 use Rattle.ds_chain.specs.Distance.{AreBelow}
 
 -- the hop between the keys that go by the numbers

@@ -5,7 +5,7 @@ ghost use Rattle.ds_chain.specs.Naming.{same_key};
 
 use crate::chain::Chain;
 use crate::hop::Hop;
-use crate::key::PubKey;
+use ds_label::PubKey;
 use crate::numbers::number_of;
 use crate::search::search_keys;
 use std::alloc::{AllocError, Global};
@@ -21,7 +21,7 @@ pub struct HopList {
 impl Model for HopList {
     ghost use Rattle.std.specs.Prelude.{List, Option};
     ghost use Rattle.ds_chain.specs.declared.hop.Hop.{Hop};
-    ghost use Rattle.ds_chain.specs.declared.key.PubKey.{PubKey};
+    ghost use Rattle.ds_label.specs.declared.category.PubKey.{PubKey};
     ghost use Rattle.ds_chain.specs.Naming.{hops_of, AreNumbered};
 
     ghost Value = { List (Option (Hop PubKey)) };

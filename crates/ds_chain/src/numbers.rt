@@ -1,7 +1,7 @@
 ghost use Rattle.std.specs.Prelude.{◌≡◌, ℕ, ◌<◌, length, IfSome, IfNone, IfOk, OnErr, vec_items};
 ghost use Rattle.ds_chain.specs.Naming.{key_of, HasNumber};
 
-use crate::key::PubKey;
+use ds_label::PubKey;
 use std::alloc::AllocError;
 
 /// The number of a key, which is its place.

@@ -6,7 +6,7 @@ ghost use Rattle.ds_chain.specs.Naming.{same_key, hops_of, AreNumbered};
 
 use crate::distance::distances;
 use crate::hop::Hop;
-use crate::key::PubKey;
+use ds_label::PubKey;
 use crate::numbers::find_number;
 use crate::walk::walk;
 use std::alloc::{AllocError, Global};

@@ -1,7 +1,7 @@
 use Rattle.std.proofs.Common.{◌≡◌, ◌∙◌, ◌++◌, ◌∷◌, [], List, Some, ap, sym, subst}
 use Rattle.std.specs.Prelude.{Option}
 use Rattle.ds_chain.specs.declared.hop.Hop.{Hop}
-use Rattle.ds_chain.specs.declared.key.PubKey.{PubKey}
+use Rattle.ds_label.specs.declared.category.PubKey.{PubKey}
 use Rattle.ds_chain.specs.Naming.{hops_of}
 use Rattle.ds_chain.proofs.Numbered.{on_error, hops_kept, kept_over, hops_push}
 use Rattle.ds_chain.proofs.hop_list.HopList.add.Goals as goal

@@ -1,0 +1,51 @@
+-- Labels as sets of categories of any kind: the names that hosts exchange, or a host's own numbers.
+use Rattle.std.specs.Prelude.{Bool, List, [], ◌∷◌, ◌++◌, ◌||◌, ◌&&◌, not, filter}
+use Rattle.std.specs.declared.cmp.Ordering.{Ordering}
+use Rattle.std.specs.declared.cmp.Ordering.TheVariants.{Less, Equal, Greater}
+use Rattle.std.specs.List.Sorted.{IsStrictlySortedBy}
+use Rattle.ds_label.specs.Lists.{any, all}
+
+-- how categories of a kind are told apart, which of them are for secrecy (the others are for integrity), and their order
+pub record Naming (C : Type 0) : Type 0 where
+  pub same : C → C → Bool
+  pub secret : C → Bool
+  pub compare : C → C → Ordering
+
+-- whether a category is a member
+abbrev pub has : {C : Type 0} → Naming C → C → List C → Bool
+has naming c members = any (naming.same c) members
+
+-- The first flows to the second under an ownership: each secrecy category of the first that isn't owned is in the second,
+-- and each integrity category of the second that isn't owned is in the first.
+unfoldable pub flows : {C : Type 0} → Naming C → List C → List C → List C → Bool
+flows naming first second owned =
+    all (λ c. not (naming.secret c) || (has naming c second || has naming c owned)) first
+    && all (λ c. naming.secret c || (has naming c first || has naming c owned)) second
+
+-- whether both have the same members
+unfoldable pub same_label : {C : Type 0} → Naming C → List C → List C → Bool
+same_label naming first second = all (λ c. has naming c second) first && all (λ c. has naming c first) second
+
+-- the members of the first that aren't in the second
+unfoldable pub minus : {C : Type 0} → Naming C → List C → List C → List C
+minus naming first second = filter (λ c. not (has naming c second)) first
+
+-- c before the members or after the first of them, by how it compares with the first
+abbrev pub placed : {C : Type 0} → Ordering → C → C → List C → List C → List C
+placed Less c first rest later = c ∷ first ∷ rest
+placed Equal c first rest later = first ∷ rest
+placed Greater c first rest later = first ∷ later
+
+-- the members, and c in its place unless it is there
+abbrev pub with_member : {C : Type 0} → Naming C → C → List C → List C
+with_member naming c [] = c ∷ []
+with_member naming c (first ∷ rest) = placed (naming.compare c first) c first rest (with_member naming c rest)
+
+-- the members of both
+unfoldable pub union : {C : Type 0} → Naming C → List C → List C → List C
+union naming first [] = first
+union naming first (c ∷ members) = with_member naming c (union naming first members)
+
+-- each member is below those after it, so none stands twice
+abbrev pub IsRising : {C : Type 0} → Naming C → List C → Type 0
+IsRising naming members = IsStrictlySortedBy naming.compare members

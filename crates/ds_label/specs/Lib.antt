@@ -1,0 +1,5 @@
+pub mod Lists
+pub mod Flow
+pub mod Names
+pub mod Numbers
+pub mod Rules

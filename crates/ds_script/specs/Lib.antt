@@ -1,0 +1,5 @@
+pub mod Replay
+pub mod Inner
+pub mod Fits
+pub mod Process
+pub mod Sound

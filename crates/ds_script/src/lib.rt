@@ -1,0 +1,15 @@
+//! Processes: their scripts, the steps that stay inside one, and what they note; and the actors of events.
+#![tactic(auto)]
+
+mod actor;
+mod course;
+mod note;
+mod op;
+mod process;
+mod usable;
+
+pub use actor::{Actor, ActorKind};
+pub use note::{Note, NoteList};
+pub use op::{Op, OpList};
+pub use process::Proc;
+pub use usable::{Usable, UsableList};
