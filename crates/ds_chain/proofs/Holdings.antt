@@ -10,7 +10,8 @@ use Rattle.std.proofs.lemmas.Option.{same_Some}
 use Rattle.std.proofs.lemmas.Map.Steps.{length-le_from_distinct_below}
 use Rattle.ds_chain.specs.declared.hop.Hop.{Hop}
 use Rattle.ds_chain.specs.Chain.{IsHop, LeadsTo}
-use Rattle.ds_chain.specs.Holding.{IsSameness, is_among, added_key, round, rounds, holds}
+use Rattle.ds_chain.specs.Keys.{IsSameness}
+use Rattle.ds_chain.specs.Holding.{is_among, added_key, round, rounds, holds}
 use Rattle.ds_chain.proofs.Chains.{hop_within, same_ends}
 
 module _ {K : Type 0} (same : K → K → Bool) where

@@ -11,9 +11,11 @@ use Rattle.std.specs.declared.alloc.AllocError.{AllocError}
 use Rattle.ds_chain.specs.declared.hop.Hop.{Hop}
 use Rattle.ds_label.specs.declared.category.PubKey.{PubKey}
 use Rattle.ds_chain.specs.Chain.{LeadsTo, IsShortestChain}
-use Rattle.ds_chain.specs.Holding.{IsSameness, holds}
+use Rattle.ds_chain.specs.Keys.{IsSameness}
+use Rattle.ds_chain.specs.Holding.{holds}
 use Rattle.ds_chain.specs.Distance.{AreBelow}
-use Rattle.ds_chain.specs.Naming.{named_hop, IsNaming, same_key, key_of, hops_of, AreNumbered, HasNumber}
+use Rattle.ds_chain.specs.Keys.{same_key}
+use Rattle.ds_chain.specs.Naming.{named_hop, IsNaming, key_of, hops_of, AreNumbered, HasNumber}
 use Rattle.ds_chain.proofs.Chains.{shortest_here}
 use Rattle.ds_chain.proofs.Holdings.{holds_by_chain, chain_of_holder}
 use Rattle.ds_chain.proofs.Names.{named_shortest, named_none, signer_named, end_named}

@@ -1,12 +1,7 @@
 -- Who holds a category: the keys that are reached from the creator's in as many rounds as there are certificates.
-use Rattle.std.specs.Prelude.{◌≡◌, ℕ, zero, suc, Bool, List, [], ◌∷◌, ◌++◌, length, Option, Some, None, filter_map, if◌then◌else◌}
+use Rattle.std.specs.Prelude.{ℕ, zero, suc, Bool, List, [], ◌∷◌, ◌++◌, length, Option, Some, None, filter_map, if◌then◌else◌}
 use Rattle.std.specs.List.{list_any}
-use Rattle.std.specs.Bool.{Decides}
 use Rattle.ds_chain.specs.declared.hop.Hop.{Hop}
-
--- the test says of two keys whether they are the same
-abbrev pub IsSameness : {K : Type 0} → (K → K → Bool) → Type 0
-IsSameness {K} same = (a b : K) → Decides (same a b) (a ≡ b)
 
 abbrev pub is_among : {K : Type 0} → (K → K → Bool) → List K → K → Bool
 is_among same keys key = list_any (same key) keys

@@ -1,6 +1,5 @@
 -- Keys that go by numbers, each key by one.
-use Rattle.std.specs.Prelude.{◌≡◌, ℕ, ◌<◌, ◌≤◌, Bool, List, [], length, Option, map, option_map, slice_index_or, nat_eq}
-use Rattle.std.specs.Cmp.Lexicographic.{pointwise}
+use Rattle.std.specs.Prelude.{◌≡◌, ℕ, ◌<◌, ◌≤◌, List, [], length, Option, map, option_map, slice_index_or}
 use Rattle.ds_chain.specs.declared.hop.Hop.{Hop}
 use Rattle.ds_label.specs.declared.category.PubKey.{PubKey}
 use Rattle.ds_chain.specs.Distance.{AreBelow}
@@ -12,10 +11,6 @@ named_hop name entry = option_map (λ hop. record { by = name hop.by; to = name 
 -- No two numbers below the count name the same key.
 abbrev pub IsNaming : {K : Type 0} → ℕ → (ℕ → K) → Type 0
 IsNaming count name = (a b : ℕ) → a < count → b < count → name a ≡ name b → a ≡ b
-
--- two keys have the same bytes
-abbrev pub same_key : PubKey → PubKey → Bool
-same_key a b = pointwise nat_eq a.0 b.0
 
 -- the key that goes by the number
 abbrev pub key_of : List PubKey → ℕ → PubKey

@@ -1,7 +1,8 @@
 ghost use Rattle.std.specs.Prelude.{◌≡◌, ◌<◌, ◌^◌, ◌↔◌, [], ◌∷◌, ◌++◌, length, IsTrue, IsSome, OnOk, OnErr, IfOk, IfSome, Some, None};
 ghost use Rattle.ds_chain.specs.Chain.{IsShortestChain};
 ghost use Rattle.ds_chain.specs.Holding.{holds};
-ghost use Rattle.ds_chain.specs.Naming.{same_key};
+ghost use Rattle.ds_chain.specs.Keys.{same_key};
+ghost use Rattle.ds_chain.specs.Shortest.{shortest_chain};
 
 use crate::chain::Chain;
 use crate::hop::Hop;
@@ -66,6 +67,7 @@ impl HopList {
     /// key does not hold. The creator's own chain is empty.
     pub fn search(&self, alloc: Global, creator: &PubKey, key: &PubKey) -> Result<Option<Chain>, AllocError>
         requires { length self.now < 2 ^ 32 }
+        ensures answer { IfOk result (λ answer. answer ≡ shortest_chain same_key self.now creator.now key.now) }
         ensures holds { IfOk result (λ answer. IsSome answer ↔ IsTrue (holds same_key self.now creator.now key.now)) }
         ensures shortest { IfOk result (λ answer. IfSome answer (λ chain. IsShortestChain self.now creator.now chain key.now)) }
     {

@@ -1,7 +1,9 @@
-ghost use Rattle.std.specs.Prelude.{◌≡◌, ◌<◌, ◌↔◌, ℕ, Bool, List, [], Option, All, IsTrue, length};
+ghost use Rattle.std.specs.Prelude.{◌≡◌, ◌<◌, ◌↔◌, ℕ, Bool, List, [], Option, Some, All, IsTrue, is_some, length};
 ghost use Rattle.ds_chain.specs.declared.hop.Hop.{Hop};
 ghost use Rattle.ds_chain.specs.Chain.{IsHop, LeadsTo, IsShortestChain};
-ghost use Rattle.ds_chain.specs.Holding.{IsSameness, holds};
+ghost use Rattle.ds_chain.specs.Keys.{IsSameness};
+ghost use Rattle.ds_chain.specs.Holding.{holds};
+ghost use Rattle.ds_chain.specs.Shortest.{shortest_chain};
 
 /// What holds of every list of certificates, every creator and every key: the laws of chains.
 pub fn chain_laws<K>()
@@ -14,6 +16,11 @@ pub fn chain_laws<K>()
     // A key holds exactly where a chain leads to it.
     ensures led { (same : K → K → Bool) → IsSameness same → (hops : List (Option (Hop K))) (creator key : K) →
         IsTrue (holds same hops creator key) ↔ ((places : List ℕ) × LeadsTo hops creator places key) }
+    // The function gives the shortest chain, and none exactly where the key does not hold.
+    ensures given { (same : K → K → Bool) → IsSameness same → (hops : List (Option (Hop K))) (creator key : K) (places : List ℕ) →
+        (shortest_chain same hops creator key ≡ Some places) ↔ IsShortestChain hops creator places key }
+    ensures none { (same : K → K → Bool) → IsSameness same → (hops : List (Option (Hop K))) (creator key : K) →
+        holds same hops creator key ≡ is_some (shortest_chain same hops creator key) }
     // The creator's own chain is empty.
     ensures own { (hops : List (Option (Hop K))) (creator : K) → IsShortestChain hops creator [] creator }
     // A chain's places are places of the list.

@@ -2,7 +2,8 @@ ghost use Rattle.std.specs.Prelude.{ℕ, List, ◌<◌, ◌^◌, ◌↔◌, leng
 ghost use Rattle.ds_chain.specs.Chain.{LeadsTo, IsShortestChain};
 ghost use Rattle.ds_chain.specs.Distance.{AreBelow};
 ghost use Rattle.ds_chain.specs.Holding.{holds};
-ghost use Rattle.ds_chain.specs.Naming.{same_key, hops_of, AreNumbered};
+ghost use Rattle.ds_chain.specs.Keys.{same_key};
+ghost use Rattle.ds_chain.specs.Naming.{hops_of, AreNumbered};
 
 use crate::distance::distances;
 use crate::hop::Hop;

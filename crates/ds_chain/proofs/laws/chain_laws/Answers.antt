@@ -1,7 +1,7 @@
 use Rattle.std.proofs.Common.{◌≡◌, true}
 use Rattle.ds_chain.proofs.Chains.{only_shortest}
 use Rattle.ds_chain.proofs.Holdings.{holds_by_chain, chain_of_holder, places_within, closed_set_has_holders}
-use Rattle.ds_chain.proofs.Shortest.{shortest_of_holder}
+use Rattle.ds_chain.proofs.Shortest.{shortest_of_holder, shortest_given, given_shortest, holds_given}
 use Rattle.ds_chain.proofs.laws.chain_laws.Goals as goal
 
 pub returns-clause-unique : goal.returns-clause-unique
@@ -18,3 +18,9 @@ returns-clause-within g c = λ hops creator key places p. places_within hops cre
 
 pub returns-clause-closed : goal.returns-clause-closed
 returns-clause-closed g c = λ same is_same hops creator inside start step key held. closed_set_has_holders same is_same hops creator (λ k. inside k ≡ true) start step key held
+
+pub returns-clause-given : goal.returns-clause-given
+returns-clause-given g c = λ same is_same hops creator key places. (shortest_given same is_same hops key creator places, given_shortest same is_same hops key creator places)
+
+pub returns-clause-none : goal.returns-clause-none
+returns-clause-none g c = λ same is_same hops creator key. holds_given same is_same hops key creator
