@@ -1,6 +1,6 @@
 -- Lists of certificates whose keys go by numbers: what stays as keys are added, and what a search over the numbers finds.
 use Rattle.std.proofs.Common.{◌≡◌, ℕ, ◌<◌, ◌≤◌, true, false, List, [], ◌∷◌, ◌++◌, length, map, refl, sym, ◌∙◌, ap, subst, arith}
-use Rattle.std.specs.Prelude.{Option, Some, None, IfSome, IfNone, IfOk, IsSome, IsTrue, OnErr, ◌↔◌, Result, Ok, Err, Vec, vec_items, nat_eq, option_map, All}
+use Rattle.std.specs.Prelude.{Option, Some, None, IfSome, IfNone, IfOk, IsSome, is_some, IsTrue, OnErr, ◌↔◌, Result, Ok, Err, Vec, vec_items, nat_eq, option_map, All}
 use Rattle.std.specs.Bool.{Decides}
 use Rattle.std.specs.Cmp.Lexicographic.{pointwise, bytes_decides}
 use Rattle.std.proofs.lemmas.Bool.{false≢true}
@@ -13,11 +13,12 @@ use Rattle.ds_label.specs.declared.category.PubKey.{PubKey}
 use Rattle.ds_chain.specs.Chain.{LeadsTo, IsShortestChain}
 use Rattle.ds_chain.specs.Keys.{IsSameness}
 use Rattle.ds_chain.specs.Holding.{holds}
+use Rattle.ds_chain.specs.Shortest.{shortest_chain}
 use Rattle.ds_chain.specs.Distance.{AreBelow}
 use Rattle.ds_chain.specs.Keys.{same_key}
 use Rattle.ds_chain.specs.Naming.{named_hop, IsNaming, key_of, hops_of, AreNumbered, HasNumber}
 use Rattle.ds_chain.proofs.Chains.{shortest_here}
-use Rattle.ds_chain.proofs.Holdings.{holds_by_chain, chain_of_holder}
+use Rattle.ds_chain.proofs.Shortest.{shortest_given, given_shortest, none_given, holds_given}
 use Rattle.ds_chain.proofs.Names.{named_shortest, named_none, signer_named, end_named}
 
 pub same_key_is : IsSameness same_key
@@ -59,40 +60,42 @@ hops_push old middle new hops by to n m below h k =
 
 module _ (keys : List PubKey) (hops : List (Option (Hop ℕ))) (numbered : AreNumbered keys hops) (creator key : PubKey) where
   -- a search over the numbers answers for the keys
-  pub answers_hold : (n m : ℕ) → n < length keys → m < length keys → key_of keys n ≡ creator → key_of keys m ≡ key → (result : Result (Option (Vec ℕ Global)) AllocError)
-      → IfOk result (λ answer. IfSome answer (λ chain. IsShortestChain hops n chain.items m)) → IfOk result (λ answer. IfNone answer ((places : List ℕ) → LeadsTo hops n places m → ⊥))
-      → IfOk result (λ answer. IsSome answer ↔ IsTrue (holds same_key (hops_of keys hops) creator key))
-  answers_hold n m ln lm en em (Err e) p q = tt
-  answers_hold n m ln lm en em (Ok None) p q =
-      (λ e. absurd (false≢true e),
-        λ e. let (places, l) = chain_of_holder same_key same_key_is (hops_of keys hops) creator key e in
-            absurd (named_none (key_of keys) (length keys) numbered.naming hops numbered.below n m ln lm q places
-                (subst (λ (k : PubKey). LeadsTo (hops_of keys hops) (key_of keys n) places k) (sym em) (subst (λ (k : PubKey). LeadsTo (hops_of keys hops) k places key) (sym en) l))))
-  answers_hold n m ln lm en em (Ok (Some chain)) p q =
-      (λ e. holds_by_chain same_key same_key_is (hops_of keys hops) creator key chain.items
-          (subst (λ (k : PubKey). LeadsTo (hops_of keys hops) creator chain.items k) em (subst (λ (k : PubKey). LeadsTo (hops_of keys hops) k chain.items (key_of keys m)) en
-              (named_shortest (key_of keys) (length keys) numbered.naming hops numbered.below n m chain.items ln lm p).leads)),
-        λ e. refl)
+  pub answers : (n m : ℕ) → n < length keys → m < length keys → key_of keys n ≡ creator → key_of keys m ≡ key → (result : Result (Option (List ℕ)) AllocError)
+      → IfOk result (λ answer. IfSome answer (λ chain. IsShortestChain hops n chain m)) → IfOk result (λ answer. IfNone answer ((places : List ℕ) → LeadsTo hops n places m → ⊥))
+      → IfOk result (λ answer. answer ≡ shortest_chain same_key (hops_of keys hops) creator key)
+  answers n m ln lm en em (Err e) p q = tt
+  answers n m ln lm en em (Ok None) p q =
+      sym (none_given same_key same_key_is (hops_of keys hops) key creator (λ places l.
+          named_none (key_of keys) (length keys) numbered.naming hops numbered.below n m ln lm q places
+              (subst (λ (k : PubKey). LeadsTo (hops_of keys hops) (key_of keys n) places k) (sym em) (subst (λ (k : PubKey). LeadsTo (hops_of keys hops) k places key) (sym en) l))))
+  answers n m ln lm en em (Ok (Some chain)) p q =
+      sym (given_shortest same_key same_key_is (hops_of keys hops) key creator chain
+          (subst (λ (k : PubKey). IsShortestChain (hops_of keys hops) creator chain k) em (subst (λ (k : PubKey). IsShortestChain (hops_of keys hops) k chain (key_of keys m)) en
+              (named_shortest (key_of keys) (length keys) numbered.naming hops numbered.below n m chain ln lm p))))
 
-  pub answers_shortest : (n m : ℕ) → n < length keys → m < length keys → key_of keys n ≡ creator → key_of keys m ≡ key → (result : Result (Option (Vec ℕ Global)) AllocError)
-      → IfOk result (λ answer. IfSome answer (λ chain. IsShortestChain hops n chain.items m))
-      → IfOk result (λ answer. IfSome answer (λ chain. IsShortestChain (hops_of keys hops) creator chain.items key))
-  answers_shortest n m ln lm en em (Err e) p = tt
-  answers_shortest n m ln lm en em (Ok None) p = tt
-  answers_shortest n m ln lm en em (Ok (Some chain)) p =
-      subst (λ (k : PubKey). IsShortestChain (hops_of keys hops) creator chain.items k) em (subst (λ (k : PubKey). IsShortestChain (hops_of keys hops) k chain.items (key_of keys m)) en
-          (named_shortest (key_of keys) (length keys) numbered.naming hops numbered.below n m chain.items ln lm p))
+  pub no_signer : (creator ≡ key → ⊥) → ((n : ℕ) → n < length keys → key_of keys n ≡ creator → ⊥) → None ≡ shortest_chain same_key (hops_of keys hops) creator key
+  no_signer apart none = sym (none_given same_key same_key_is (hops_of keys hops) key creator (λ places l.
+      let (n, w, q) = signer_named (key_of keys) (length keys) numbered.naming hops numbered.below creator key places apart l in none n w q))
 
-  pub no_signer : (creator ≡ key → ⊥) → ((n : ℕ) → n < length keys → key_of keys n ≡ creator → ⊥) → IsTrue (holds same_key (hops_of keys hops) creator key) → ⊥
-  no_signer apart none e = let (places, l) = chain_of_holder same_key same_key_is (hops_of keys hops) creator key e in
-      let (n, w, q) = signer_named (key_of keys) (length keys) numbered.naming hops numbered.below creator key places apart l in none n w q
+  pub no_end : (creator ≡ key → ⊥) → ((n : ℕ) → n < length keys → key_of keys n ≡ key → ⊥) → None ≡ shortest_chain same_key (hops_of keys hops) creator key
+  no_end apart none = sym (none_given same_key same_key_is (hops_of keys hops) key creator (λ places l.
+      let (n, w, q) = end_named (key_of keys) (length keys) numbered.naming hops numbered.below creator key places apart l in none n w q))
 
-  pub no_end : (creator ≡ key → ⊥) → ((n : ℕ) → n < length keys → key_of keys n ≡ key → ⊥) → IsTrue (holds same_key (hops_of keys hops) creator key) → ⊥
-  no_end apart none e = let (places, l) = chain_of_holder same_key same_key_is (hops_of keys hops) creator key e in
-      let (n, w, q) = end_named (key_of keys) (length keys) numbered.naming hops numbered.below creator key places apart l in none n w q
+module _ (hops : List (Option (Hop PubKey))) (creator key : PubKey) where
+  pub own_chain : (places : List ℕ) → creator ≡ key → places ≡ [] → Some places ≡ shortest_chain same_key hops creator key
+  own_chain places e f = sym (given_shortest same_key same_key_is hops key creator places
+      (subst (λ (l : List ℕ). IsShortestChain hops creator l key) (sym f) (subst (λ (k : PubKey). IsShortestChain hops creator [] k) e (shortest_here hops creator))))
 
-pub holds_creator : (hops : List (Option (Hop PubKey))) (creator key : PubKey) → creator ≡ key → IsTrue (holds same_key hops creator key)
-holds_creator hops creator key e = holds_by_chain same_key same_key_is hops creator key [] e
+  -- what the function's answer says
+  pub answer_holds : (result : Result (Option (List ℕ)) AllocError) → IfOk result (λ answer. answer ≡ shortest_chain same_key hops creator key)
+      → IfOk result (λ answer. IsSome answer ↔ IsTrue (holds same_key hops creator key))
+  answer_holds (Err e) p = tt
+  answer_holds (Ok answer) p =
+      let e : holds same_key hops creator key ≡ is_some answer = holds_given same_key same_key_is hops key creator ∙ ap is_some (sym p) in
+      (λ h. e ∙ h, λ h. sym e ∙ h)
 
-pub shortest_creator : (hops : List (Option (Hop PubKey))) (creator key : PubKey) (places : List ℕ) → creator ≡ key → places ≡ [] → IsShortestChain hops creator places key
-shortest_creator hops creator key places e f = subst (λ (l : List ℕ). IsShortestChain hops creator l key) (sym f) (subst (λ (k : PubKey). IsShortestChain hops creator [] k) e (shortest_here hops creator))
+  pub answer_shortest : (result : Result (Option (List ℕ)) AllocError) → IfOk result (λ answer. answer ≡ shortest_chain same_key hops creator key)
+      → IfOk result (λ answer. IfSome answer (λ chain. IsShortestChain hops creator chain key))
+  answer_shortest (Err e) p = tt
+  answer_shortest (Ok None) p = tt
+  answer_shortest (Ok (Some chain)) p = shortest_given same_key same_key_is hops key creator chain (sym p)

@@ -71,7 +71,6 @@ impl HopList {
         ensures holds { IfOk result (λ answer. IsSome answer ↔ IsTrue (holds same_key self.now creator.now key.now)) }
         ensures shortest { IfOk result (λ answer. IfSome answer (λ chain. IsShortestChain self.now creator.now chain key.now)) }
     {
-        let places = search_keys(alloc, &self.keys, &self.hops, creator, key)?;
-        Ok(places.map(Chain::new))
+        search_keys(alloc, &self.keys, &self.hops, creator, key)
     }
 }

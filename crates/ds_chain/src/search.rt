@@ -1,10 +1,11 @@
-ghost use Rattle.std.specs.Prelude.{ℕ, List, ◌<◌, ◌^◌, ◌↔◌, length, IsTrue, IsSome, IfOk, IfSome, IfNone};
+ghost use Rattle.std.specs.Prelude.{◌≡◌, ℕ, List, ◌<◌, ◌^◌, length, IfOk, IfSome, IfNone};
 ghost use Rattle.ds_chain.specs.Chain.{LeadsTo, IsShortestChain};
 ghost use Rattle.ds_chain.specs.Distance.{AreBelow};
-ghost use Rattle.ds_chain.specs.Holding.{holds};
 ghost use Rattle.ds_chain.specs.Keys.{same_key};
 ghost use Rattle.ds_chain.specs.Naming.{hops_of, AreNumbered};
+ghost use Rattle.ds_chain.specs.Shortest.{shortest_chain};
 
+use crate::chain::Chain;
 use crate::distance::distances;
 use crate::hop::Hop;
 use ds_label::PubKey;
@@ -19,19 +20,19 @@ pub fn search_numbers(
     count: usize,
     creator: usize,
     key: usize,
-) -> Result<Option<Vec<u32>>, AllocError>
+) -> Result<Option<Chain>, AllocError>
     requires few { length hops.now < 2 ^ 32 }
     requires hops { AreBelow count hops.now }
     requires creator { creator < count }
     requires key { key < count }
-    ensures shortest { IfOk result (λ answer. IfSome answer (λ chain. IsShortestChain hops.now creator chain.items key)) }
+    ensures shortest { IfOk result (λ answer. IfSome answer (λ chain. IsShortestChain hops.now creator chain key)) }
     ensures none { IfOk result (λ answer. IfNone answer ((places : List ℕ) → LeadsTo hops.now creator places key → ⊥)) }
 {
     let steps = distances(alloc, hops, count, key)?;
     match steps[creator] {
         Some(left) => {
-            let chain = walk(alloc, hops, &steps, creator, key, left)?;
-            Ok(Some(chain))
+            let places = walk(alloc, hops, &steps, creator, key, left)?;
+            Ok(Some(Chain::new(places)))
         }
         None => Ok(None),
     }
@@ -44,14 +45,13 @@ pub fn search_keys(
     hops: &[Option<Hop<usize>>],
     creator: &PubKey,
     key: &PubKey,
-) -> Result<Option<Vec<u32>>, AllocError>
+) -> Result<Option<Chain>, AllocError>
     requires few { length hops.now < 2 ^ 32 }
     requires numbered { AreNumbered keys.now hops.now }
-    ensures holds { IfOk result (λ answer. IsSome answer ↔ IsTrue (holds same_key (hops_of keys.now hops.now) creator.now key.now)) }
-    ensures shortest { IfOk result (λ answer. IfSome answer (λ chain. IsShortestChain (hops_of keys.now hops.now) creator.now chain.items key.now)) }
+    ensures { IfOk result (λ answer. answer ≡ shortest_chain same_key (hops_of keys.now hops.now) creator.now key.now) }
 {
     if creator == key {
-        return Ok(Some(Vec::new(alloc)));
+        return Ok(Some(Chain::new(Vec::new(alloc))));
     }
     let Some(creator_number) = find_number(keys, creator) else {
         return Ok(None);
