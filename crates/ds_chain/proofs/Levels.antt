@@ -1,12 +1,12 @@
 -- One level of the search, entry by entry, and the levels together.
 use Rattle.std.proofs.Common.{◌≡◌, ℕ, zero, suc, ◌+◌, ◌<◌, ◌≤◌, List, [], ◌∷◌, length, refl, sym, ◌∙◌, ap, subst, ◌⊎◌, inl, inr, arith, get_or-set_same, get_or-set_other}
 use Rattle.std.proofs.lemmas.List.{length-replicate}
-use Rattle.std.specs.Prelude.{Option, Some, None, slice_get, slice_index_or, slice_set, set, replicate}
+use Rattle.std.specs.Prelude.{Option, Some, None, slice_get, slice_index_or, set, replicate}
 use Rattle.std.proofs.lemmas.Bool.{cases_order, cases_eq}
 use Rattle.std.proofs.lemmas.Option.{none-some, same_Some}
 use Rattle.ds_chain.specs.declared.hop.Hop.{Hop}
 use Rattle.ds_chain.specs.Chain.{IsHop, LeadsTo}
-use Rattle.ds_chain.specs.Distance.{AreBelow, IsFarther, IsDistance, IsKnown, AreKnown, IsSettled, AreSettled, IsNew}
+use Rattle.ds_chain.specs.Distance.{IsFarther, IsDistance, IsKnown, AreKnown, IsSettled, AreSettled, IsNew}
 use Rattle.ds_chain.proofs.Chains.{hop_within, same_ends}
 use Rattle.ds_chain.proofs.Holdings.{short}
 
@@ -62,11 +62,11 @@ module _ (hops : List (Option (Hop ℕ))) (key level : ℕ) where
         beyond next q f h (Some n) r (l, d) =
             let (b, t) = same_ends hops end hop.by hop.to by next here h in
             at_order next n f h d
-                (λ e. old (record {
-                  to = ap (λ (k : ℕ). slice_index_or steps k None) t ∙ r ∙ ap (λ (k : ℕ). Some k) e;
-                  by = ap (λ (k : ℕ). slice_index_or steps k None) b ∙ q
-                }))
-                (cases_order n level)
+            (λ e. old (record {
+              to = ap (λ (k : ℕ). slice_index_or steps k None) t ∙ r ∙ ap (λ (k : ℕ). Some k) e;
+              by = ap (λ (k : ℕ). slice_index_or steps k None) b ∙ q;
+            }))
+            (cases_order n level)
 
         go : (o : Option ℕ) → slice_index_or steps by None ≡ o → IsPartly hops key level end by o → IsPartly hops key level (end + 1) by o
         go None q (f, before) = (f, one_more end by before (λ next h. beyond next q f h (slice_index_or steps next None) refl (known next)))
@@ -82,17 +82,17 @@ module _ (hops : List (Option (Hop ℕ))) (key level : ℕ) where
         distance : IsPartly hops key level end hop.to (Some level) → IsPartly hops key level end hop.by None → IsDistance hops hop.by key (level + 1)
         distance (l, d) (f, before) = record {
           reached = let (places, p, e) = d.reached in (end ∷ places, (hop.to, here, p), omega arith);
-          least = λ others p. let m : level < length others = f others p in omega arith
+          least = λ others p. let m : level < length others = f others p in omega arith;
         }
 
         at_key : (by ≡ hop.by) ⊎ (by ≡ hop.by → ⊥) → IsPartly hops key level (end + 1) by (slice_index_or (set steps hop.by (Some (level + 1))) by None)
         at_key (inl e) =
             subst (λ (k : ℕ). IsPartly hops key level (end + 1) k (slice_index_or (set steps hop.by (Some (level + 1))) k None)) (sym e)
-                (subst (λ (o : Option ℕ). IsPartly hops key level (end + 1) hop.by o) (sym (get_or-set_same steps hop.by (Some (level + 1)) None within))
-                    (omega arith, distance (subst (λ (o : Option ℕ). IsPartly hops key level end hop.to o) new.to (known hop.to)) (subst (λ (o : Option ℕ). IsPartly hops key level end hop.by o) new.by (known hop.by))))
+            (subst (λ (o : Option ℕ). IsPartly hops key level (end + 1) hop.by o) (sym (get_or-set_same steps hop.by (Some (level + 1)) None within))
+            (omega arith, distance (subst (λ (o : Option ℕ). IsPartly hops key level end hop.to o) new.to (known hop.to)) (subst (λ (o : Option ℕ). IsPartly hops key level end hop.by o) new.by (known hop.by))))
         at_key (inr ne) =
             subst (λ (o : Option ℕ). IsPartly hops key level (end + 1) by o) (sym (get_or-set_other steps hop.by by (Some (level + 1)) None ne))
-                (other ne (slice_index_or steps by None) (known by))
+            (other ne (slice_index_or steps by None) (known by))
 
   pub partly_all : (end : ℕ) (steps : List (Option ℕ)) → length hops ≤ end → ArePartly hops key level end steps → AreKnown hops key (level + 1) steps
   partly_all end steps all known by = go (slice_index_or steps by None) (known by)
@@ -154,7 +154,7 @@ known_first hops count key within by = at_key (cases_eq by key)
     at_key : (by ≡ key) ⊎ (by ≡ key → ⊥) → IsKnown hops key 0 by (slice_index_or (set (replicate count None) key (Some 0)) by None)
     at_key (inl e) =
         subst (λ (k : ℕ). IsKnown hops key 0 k (slice_index_or (set (replicate count None) key (Some 0)) k None)) (sym e)
-            (subst (λ (o : Option ℕ). IsKnown hops key 0 key o) (sym (get_or-set_same (replicate count None) key (Some 0) None (rw length-replicate within)))
-                (omega arith, record { reached = ([], refl, refl); least = λ others p. omega arith }))
+        (subst (λ (o : Option ℕ). IsKnown hops key 0 key o) (sym (get_or-set_same (replicate count None) key (Some 0) None (rw length-replicate within)))
+        (omega arith, record { reached = ([], refl, refl); least = λ others p. omega arith }))
     at_key (inr ne) =
         subst (λ (o : Option ℕ). IsKnown hops key 0 by o) (sym (get_or-set_other (replicate count None) key by (Some 0) None ne ∙ unknown count by)) (farther ne)

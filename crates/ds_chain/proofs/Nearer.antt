@@ -1,8 +1,7 @@
 -- A walk along the distances: the first hop to a nearer key begins the shortest chain.
-use Rattle.std.proofs.Common.{◌≡◌, ℕ, zero, suc, ◌+◌, ◌<◌, ◌≤◌, List, [], ◌∷◌, ◌++◌, length, refl, sym, ◌∙◌, ap, subst, ◌⊎◌, inl, inr, arith}
+use Rattle.std.proofs.Common.{◌≡◌, ℕ, suc, ◌<◌, ◌≤◌, List, [], ◌∷◌, length, refl, ◌∙◌, ap, subst, ◌⊎◌, inl, inr, arith}
 use Rattle.std.specs.Prelude.{Option, Some, None, slice_index_or}
 use Rattle.std.proofs.lemmas.Bool.{cases_order}
-use Rattle.std.proofs.lemmas.List.{append-nil, append_assoc}
 use Rattle.ds_chain.specs.declared.hop.Hop.{Hop}
 use Rattle.ds_chain.specs.Chain.{IsHop, LeadsTo, ComesFirst, IsShortestChain}
 use Rattle.ds_chain.specs.Distance.{IsDistance, IsSettled, AreSettled, IsFirstNearer}
@@ -46,8 +45,8 @@ module _ (hops : List (Option (Hop ℕ))) (key : ℕ) (steps : List (Option ℕ)
       → (tail : List ℕ) → IsShortestChain hops next tail key → IsShortestChain hops by (place ∷ tail) key
   nearer_shortest by left place next d first tail least =
       shortest_more hops by next key place tail first.hop least
-          (λ others p. let f : suc left ≤ length others = (distance_at by (suc left) d).least others p in let l : length tail ≤ left = as_short in omega arith)
-          (λ sooner other others s h p. let l : length tail ≤ left = as_short in farther sooner other others s h (has_distance other others p) l)
+      (λ others p. let f : suc left ≤ length others = (distance_at by (suc left) d).least others p in let l : length tail ≤ left = as_short in omega arith)
+      (λ sooner other others s h p. let l : length tail ≤ left = as_short in farther sooner other others s h (has_distance other others p) l)
     where
       shorter : (places : List ℕ) → length places ≡ left → ComesFirst tail places → length tail ≤ left
       shorter places l (inl s) = omega arith

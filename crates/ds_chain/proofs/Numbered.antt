@@ -1,12 +1,9 @@
 -- Lists of certificates whose keys go by numbers: what stays as keys are added, and what a search over the numbers finds.
-use Rattle.std.proofs.Common.{◌≡◌, ℕ, ◌<◌, ◌≤◌, true, false, List, [], ◌∷◌, ◌++◌, length, map, refl, sym, ◌∙◌, ap, subst, arith}
-use Rattle.std.specs.Prelude.{Option, Some, None, IfSome, IfNone, IfOk, IsSome, is_some, IsTrue, OnErr, ◌↔◌, Result, Ok, Err, Vec, vec_items, nat_eq, option_map, All}
-use Rattle.std.specs.Bool.{Decides}
-use Rattle.std.specs.Cmp.Lexicographic.{pointwise, bytes_decides}
-use Rattle.std.proofs.lemmas.Bool.{false≢true}
+use Rattle.std.proofs.Common.{◌≡◌, ℕ, ◌<◌, ◌≤◌, List, [], ◌∷◌, ◌++◌, length, refl, sym, ◌∙◌, ap, subst, arith}
+use Rattle.std.specs.Prelude.{Option, Some, None, IfSome, IfNone, IfOk, IsSome, is_some, IsTrue, OnErr, ◌↔◌, Result, Ok, Err}
+use Rattle.std.specs.Cmp.Lexicographic.{bytes_decides}
 use Rattle.std.proofs.lemmas.List.{map_push}
 use Rattle.std.proofs.lemmas.List.Elements.{All-head, All-tail}
-use Rattle.std.specs.declared.alloc.Global.{Global}
 use Rattle.std.specs.declared.alloc.AllocError.{AllocError}
 use Rattle.ds_chain.specs.declared.hop.Hop.{Hop}
 use Rattle.ds_label.specs.declared.category.PubKey.{PubKey}
@@ -16,7 +13,7 @@ use Rattle.ds_chain.specs.Holding.{holds}
 use Rattle.ds_chain.specs.Shortest.{shortest_chain}
 use Rattle.ds_chain.specs.Distance.{AreBelow}
 use Rattle.ds_chain.specs.Keys.{same_key}
-use Rattle.ds_chain.specs.Naming.{named_hop, IsNaming, key_of, hops_of, AreNumbered, HasNumber}
+use Rattle.ds_chain.specs.Naming.{named_hop, key_of, hops_of, AreNumbered, HasNumber}
 use Rattle.ds_chain.proofs.Chains.{shortest_here}
 use Rattle.ds_chain.proofs.Shortest.{shortest_given, given_shortest, none_given, holds_given}
 use Rattle.ds_chain.proofs.Names.{named_shortest, named_none, signer_named, end_named}
@@ -66,12 +63,12 @@ module _ (keys : List PubKey) (hops : List (Option (Hop ℕ))) (numbered : AreNu
   answers n m ln lm en em (Err e) p q = tt
   answers n m ln lm en em (Ok None) p q =
       sym (none_given same_key same_key_is (hops_of keys hops) key creator (λ places l.
-          named_none (key_of keys) (length keys) numbered.naming hops numbered.below n m ln lm q places
-              (subst (λ (k : PubKey). LeadsTo (hops_of keys hops) (key_of keys n) places k) (sym em) (subst (λ (k : PubKey). LeadsTo (hops_of keys hops) k places key) (sym en) l))))
+      named_none (key_of keys) (length keys) numbered.naming hops numbered.below n m ln lm q places
+      (subst (λ (k : PubKey). LeadsTo (hops_of keys hops) (key_of keys n) places k) (sym em) (subst (λ (k : PubKey). LeadsTo (hops_of keys hops) k places key) (sym en) l))))
   answers n m ln lm en em (Ok (Some chain)) p q =
       sym (given_shortest same_key same_key_is (hops_of keys hops) key creator chain
-          (subst (λ (k : PubKey). IsShortestChain (hops_of keys hops) creator chain k) em (subst (λ (k : PubKey). IsShortestChain (hops_of keys hops) k chain (key_of keys m)) en
-              (named_shortest (key_of keys) (length keys) numbered.naming hops numbered.below n m chain ln lm p))))
+      (subst (λ (k : PubKey). IsShortestChain (hops_of keys hops) creator chain k) em (subst (λ (k : PubKey). IsShortestChain (hops_of keys hops) k chain (key_of keys m)) en
+      (named_shortest (key_of keys) (length keys) numbered.naming hops numbered.below n m chain ln lm p))))
 
   pub no_signer : (creator ≡ key → ⊥) → ((n : ℕ) → n < length keys → key_of keys n ≡ creator → ⊥) → None ≡ shortest_chain same_key (hops_of keys hops) creator key
   no_signer apart none = sym (none_given same_key same_key_is (hops_of keys hops) key creator (λ places l.

@@ -115,7 +115,7 @@ module _ {K : Type 0} (same : K → K → Bool) (is_same : IsSameness same) (hop
   least_is zero by = none_here by
   least_is (suc n) by =
       from_first n by (least_is n) (least_chain same hops key (suc n) by)
-          (first_answer_is (λ place. chain_by same by place (least_chain same hops key n) (slice_get hops place)) 0 (length hops))
+      (first_answer_is (λ place. chain_by same by place (least_chain same hops key n) (slice_get hops place)) 0 (length hops))
 
   module _ (creator : K) where
     at_number : (n : ℕ) (o : Option (List ℕ)) → least_chain same hops key n creator ≡ o → Answer n creator o

@@ -1,5 +1,5 @@
 -- Chains: lists of places whose hops lead from the creator's key to another, and the shortest of these.
-use Rattle.std.specs.Prelude.{◌≡◌, ℕ, zero, suc, ◌<◌, List, [], ◌∷◌, length, Option, Some, None, slice_get, ◌⊎◌}
+use Rattle.std.specs.Prelude.{◌≡◌, ℕ, ◌<◌, List, [], ◌∷◌, length, Option, Some, slice_get, ◌⊎◌}
 use Rattle.ds_chain.specs.declared.hop.Hop.{Hop}
 
 -- A certificate that counts stands at the place: the one key signed it, and it names the other.

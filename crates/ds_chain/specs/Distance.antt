@@ -1,5 +1,5 @@
 -- How many hops the shortest chain to a key has, key by key, and what is known of this after so many levels of the search.
-use Rattle.std.specs.Prelude.{◌≡◌, ℕ, suc, ◌+◌, ◌<◌, ◌≤◌, List, length, All, Option, Some, None, IfSome, slice_index_or}
+use Rattle.std.specs.Prelude.{◌≡◌, ℕ, ◌<◌, ◌≤◌, List, length, All, Option, Some, None, IfSome, slice_index_or}
 use Rattle.ds_chain.specs.declared.hop.Hop.{Hop}
 use Rattle.ds_chain.specs.Chain.{IsHop, LeadsTo}
 

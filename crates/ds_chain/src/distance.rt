@@ -50,7 +50,12 @@ fn settle(hops: &[Option<Hop<usize>>], steps: &mut [Option<u32>])
 }
 
 /// The distance of each of `count` keys from `key`.
-pub fn distances(alloc: Global, hops: &[Option<Hop<usize>>], count: usize, key: usize) -> Result<Vec<Option<u32>>, AllocError>
+pub(crate) fn distances(
+    alloc: Global,
+    hops: &[Option<Hop<usize>>],
+    count: usize,
+    key: usize,
+) -> Result<Vec<Option<u32>>, AllocError>
     requires few { length hops.now < 2 ^ 32 }
     requires hops { AreBelow count hops.now }
     requires key { key < count }

@@ -6,9 +6,9 @@ ghost use Rattle.ds_chain.specs.Shortest.{shortest_chain};
 
 use crate::chain::Chain;
 use crate::hop::Hop;
-use ds_label::PubKey;
 use crate::numbers::number_of;
 use crate::search::search_keys;
+use ds_label::PubKey;
 use std::alloc::{AllocError, Global};
 use std::marker::Model;
 
@@ -43,6 +43,20 @@ impl HopList {
         }
     }
 
+    /// How many places there are.
+    pub fn len(&self) -> usize
+        ensures { result ≡ length self.now }
+    {
+        self.hops.len()
+    }
+
+    /// Whether there are none.
+    pub fn is_empty(&self) -> bool
+        ensures { IsTrue result ↔ (self.now ≡ []) }
+    {
+        self.hops.is_empty()
+    }
+
     /// Goes on to the next place, with a certificate that counts: `by` signed it, and it names `to`.
     pub fn add(&mut self, by: &PubKey, to: &PubKey) -> Result<(), AllocError>
         ensures ok { OnOk result (self.new ≡ self.old ++ Some (record { by = by.now; to = to.now }) ∷ []) }
@@ -65,7 +79,12 @@ impl HopList {
 
     /// The places of the shortest chain from the creator's key to another, and of the least of these, or none where the
     /// key does not hold. The creator's own chain is empty.
-    pub fn search(&self, alloc: Global, creator: &PubKey, key: &PubKey) -> Result<Option<Chain>, AllocError>
+    pub fn search(
+        &self,
+        alloc: Global,
+        creator: &PubKey,
+        key: &PubKey,
+    ) -> Result<Option<Chain>, AllocError>
         requires { length self.now < 2 ^ 32 }
         ensures answer { IfOk result (λ answer. answer ≡ shortest_chain same_key self.now creator.now key.now) }
         ensures holds { IfOk result (λ answer. IsSome answer ↔ IsTrue (holds same_key self.now creator.now key.now)) }

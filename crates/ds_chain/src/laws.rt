@@ -32,5 +32,4 @@ pub fn chain_laws<K>()
         IsTrue (inside creator) →
         ((place : ℕ) (by to : K) → IsHop hops place by to → IsTrue (inside by) → IsTrue (inside to)) →
         (key : K) → IsTrue (holds same hops creator key) → IsTrue (inside key) }
-{
-}
+{}

@@ -15,3 +15,6 @@ pub use chain::Chain;
 pub use hop::Hop;
 pub use hop_list::HopList;
 pub use laws::chain_laws;
+
+#[cfg(test)]
+mod tests;

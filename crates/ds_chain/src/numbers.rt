@@ -5,7 +5,7 @@ use ds_label::PubKey;
 use std::alloc::AllocError;
 
 /// The number of a key, which is its place.
-pub fn find_number(keys: &[PubKey], key: &PubKey) -> Option<usize>
+pub(crate) fn find_number(keys: &[PubKey], key: &PubKey) -> Option<usize>
     ensures within { IfSome result (λ n. n < length keys.now) }
     ensures named { IfSome result (λ n. key_of keys.now n ≡ key.now) }
     ensures none { IfNone result ((n : ℕ) → n < length keys.now → key_of keys.now n ≡ key.now → ⊥) }
@@ -14,7 +14,7 @@ pub fn find_number(keys: &[PubKey], key: &PubKey) -> Option<usize>
 }
 
 /// The number of a key, which is added where it has none.
-pub fn number_of(keys: &mut Vec<PubKey>, key: &PubKey) -> Result<usize, AllocError>
+pub(crate) fn number_of(keys: &mut Vec<PubKey>, key: &PubKey) -> Result<usize, AllocError>
     ensures ok { IfOk result (λ n. HasNumber keys.old.items keys.new.items key.now n) }
     ensures err { OnErr result (keys.new.items ≡ keys.old.items) }
 {

@@ -8,13 +8,13 @@ ghost use Rattle.ds_chain.specs.Shortest.{shortest_chain};
 use crate::chain::Chain;
 use crate::distance::distances;
 use crate::hop::Hop;
-use ds_label::PubKey;
 use crate::numbers::find_number;
 use crate::walk::walk;
+use ds_label::PubKey;
 use std::alloc::{AllocError, Global};
 
 /// The shortest chain from one key to another, of `count` keys that go by numbers, or none where no chain leads there.
-pub fn search_numbers(
+pub(crate) fn search_numbers(
     alloc: Global,
     hops: &[Option<Hop<usize>>],
     count: usize,
@@ -39,7 +39,7 @@ pub fn search_numbers(
 }
 
 /// The shortest chain from the creator's key to another, or none where that key does not hold.
-pub fn search_keys(
+pub(crate) fn search_keys(
     alloc: Global,
     keys: &[PubKey],
     hops: &[Option<Hop<usize>>],

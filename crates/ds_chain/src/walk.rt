@@ -24,7 +24,12 @@ fn is_nearer(steps: &[Option<u32>], hop: &Hop<usize>, by: usize, left: u32) -> b
 }
 
 /// The first hop that leads from the key `by` to one that `left` more hops lead from.
-fn first_nearer(hops: &[Option<Hop<usize>>], steps: &[Option<u32>], by: usize, left: u32) -> Option<Step>
+fn first_nearer(
+    hops: &[Option<Hop<usize>>],
+    steps: &[Option<u32>],
+    by: usize,
+    left: u32,
+) -> Option<Step>
     requires few { length hops.now < 2 ^ 32 }
     requires hops { AreBelow (length steps.now) hops.now }
     ensures found { IfSome result (λ step. IsFirstNearer hops.now steps.now by left step.place step.to) }
@@ -44,7 +49,14 @@ fn first_nearer(hops: &[Option<Hop<usize>>], steps: &[Option<u32>], by: usize, l
 }
 
 /// The shortest chain, of `count` hops, from the creator's key to the key that the distances lead to.
-pub fn walk(alloc: Global, hops: &[Option<Hop<usize>>], steps: &[Option<u32>], creator: usize, key: usize, count: u32) -> Result<Vec<u32>, AllocError>
+pub(crate) fn walk(
+    alloc: Global,
+    hops: &[Option<Hop<usize>>],
+    steps: &[Option<u32>],
+    creator: usize,
+    key: usize,
+    count: u32,
+) -> Result<Vec<u32>, AllocError>
     requires few { length hops.now < 2 ^ 32 }
     requires hops { AreBelow (length steps.now) hops.now }
     requires settled { AreSettled hops.now key steps.now }

@@ -1,5 +1,5 @@
-use Rattle.std.proofs.Common.{◌≡◌, ℕ, length}
-use Rattle.std.specs.Prelude.{Bool, false}
+use Rattle.std.proofs.Common.{◌≡◌, ℕ}
+use Rattle.std.specs.Prelude.{false}
 use Rattle.ds_chain.specs.Distance.{AreKnown}
 use Rattle.ds_chain.proofs.Levels.{ArePartly}
 use Rattle.ds_chain.proofs.distance.add_level.Given as goal
