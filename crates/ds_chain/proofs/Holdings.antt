@@ -1,11 +1,11 @@
 -- Holding and chains: a key holds exactly where a chain leads to it, and a closed set has every key that holds.
 use Rattle.std.proofs.Common.{◌≡◌, ℕ, zero, suc, ◌<◌, ◌≤◌, Bool, true, false, cond, List, [], ◌∷◌, ◌++◌, length, refl, sym, ◌∙◌, ap, subst, ◌⊎◌, inl, inr, arith, eqb, eqb-true}
-use Rattle.std.specs.Prelude.{Option, Some, None, filter_map, IsTrue, All}
+use Rattle.std.specs.Prelude.{Option, Some, None, filter_map, map, option_map, slice_get, Contains, IsTrue, All}
 use Rattle.std.proofs.lemmas.List.Elements.{All-from_recursion}
 use Rattle.std.specs.List.{list_any, IsDistinct, AllByRecursion, cons_option}
 use Rattle.std.proofs.lemmas.List.Folds.{list_any-append}
 use Rattle.std.proofs.lemmas.Bool.{or_cases, or_left, or_right, or_parts, cases_Bool, false≢true}
-use Rattle.std.proofs.lemmas.Option.{same_Some}
+use Rattle.std.proofs.lemmas.Option.{none-some, same_Some, slice_get-map, slice_get_within, get_or_from_slice_get}
 use Rattle.std.proofs.lemmas.Map.Steps.{length-le_from_distinct_below}
 use Rattle.ds_chain.specs.declared.hop.Hop.{Hop}
 use Rattle.ds_chain.specs.Chain.{IsHop, LeadsTo}
@@ -186,3 +186,31 @@ closed_set_has_holders {K} same is_same hops creator Within start closed key e =
     along : (by : K) (places : List ℕ) → Within by → LeadsTo hops by places key → Within key
     along by [] w p = subst Within p w
     along by (place ∷ places) w (x, h, p) = along x places (closed place by x h w) p
+
+-- The same for a list of certificates of any kind, each seen as its hop where it counts.
+pub closed_list_has_holders : {C K : Type 0} (same : K → K → Bool) (is_same : IsSameness same) (hop_of : C → Option (Hop K)) (certs : List C) (creator : K) (Within : K → Type 0) → Within creator
+    → ((cert : C) → Contains certs cert → (hop : Hop K) → hop_of cert ≡ Some hop → Within hop.by → Within hop.to)
+    → (key : K) → IsTrue (holds same (map hop_of certs) creator key) → Within key
+closed_list_has_holders {C} {K} same is_same hop_of certs creator Within start closed key e =
+    closed_set_has_holders same is_same (map hop_of certs) creator Within start
+    (λ place by to h w. at_entry place by to w (slice_get certs place) refl (sym (slice_get-map hop_of certs place) ∙ h)) key e
+  where
+    at_entry : (place : ℕ) (by to : K) → Within by → (entry : Option C) → slice_get certs place ≡ entry → option_map hop_of entry ≡ Some (Some (record { by = by; to = to })) → Within to
+    at_entry place by to w None q r = absurd (none-some _ r)
+    at_entry place by to w (Some cert) q r =
+        closed cert (place, slice_get_within certs place cert q, get_or_from_slice_get certs place cert cert q) (record { by = by; to = to }) (same_Some _ _ r) w
+
+place_kept : {X : Type 0} (xs ys : List X) (place : ℕ) (x : X) → slice_get xs place ≡ Some x → slice_get (xs ++ ys) place ≡ Some x
+place_kept [] ys place x e = absurd (none-some _ e)
+place_kept (z ∷ xs) ys zero x e = e
+place_kept (z ∷ xs) ys (suc place) x e = place_kept xs ys place x e
+
+-- more certificates leave each chain a chain
+pub chain_kept : {K : Type 0} (hops more : List (Option (Hop K))) (creator key : K) (places : List ℕ) → LeadsTo hops creator places key → LeadsTo (hops ++ more) creator places key
+chain_kept hops more creator key [] p = p
+chain_kept hops more creator key (place ∷ places) (x, h, p) = (x, place_kept hops more place _ h, chain_kept hops more x key places p)
+
+-- and each holder a holder
+pub holder_kept : {K : Type 0} (same : K → K → Bool) (is_same : IsSameness same) (hops more : List (Option (Hop K))) (creator key : K) → IsTrue (holds same hops creator key) → IsTrue (holds same (hops ++ more) creator key)
+holder_kept same is_same hops more creator key e = let (places, p) = chain_of_holder same is_same hops creator key e in
+    holds_by_chain same is_same (hops ++ more) creator key places (chain_kept hops more creator key places p)

@@ -1,4 +1,4 @@
-ghost use Rattle.std.specs.Prelude.{◌≡◌, ◌<◌, ◌↔◌, ℕ, Bool, List, [], Option, Some, All, IsTrue, is_some, length};
+ghost use Rattle.std.specs.Prelude.{◌≡◌, ◌<◌, ◌↔◌, ℕ, Bool, List, [], ◌++◌, Option, Some, All, IsTrue, is_some, length};
 ghost use Rattle.ds_chain.specs.declared.hop.Hop.{Hop};
 ghost use Rattle.ds_chain.specs.Chain.{IsHop, LeadsTo, IsShortestChain};
 ghost use Rattle.ds_chain.specs.Keys.{IsSameness};
@@ -26,6 +26,9 @@ pub fn chain_laws<K>()
     // A chain's places are places of the list.
     ensures within { (hops : List (Option (Hop K))) (creator key : K) (places : List ℕ) →
         LeadsTo hops creator places key → All (λ place. place < length hops) places }
+    // More certificates leave each holder a holder.
+    ensures kept { (same : K → K → Bool) → IsSameness same → (hops more : List (Option (Hop K))) (creator key : K) →
+        IsTrue (holds same hops creator key) → IsTrue (holds same (hops ++ more) creator key) }
     // A set that has the creator, and with the signer of each certificate that counts also the key that it names, has each
     // key that holds.
     ensures closed { (same : K → K → Bool) → IsSameness same → (hops : List (Option (Hop K))) (creator : K) (inside : K → Bool) →

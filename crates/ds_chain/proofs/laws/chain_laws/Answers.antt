@@ -1,6 +1,6 @@
 use Rattle.std.proofs.Common.{◌≡◌, true}
 use Rattle.ds_chain.proofs.Chains.{only_shortest}
-use Rattle.ds_chain.proofs.Holdings.{holds_by_chain, chain_of_holder, places_within, closed_set_has_holders}
+use Rattle.ds_chain.proofs.Holdings.{holds_by_chain, chain_of_holder, places_within, holder_kept, closed_set_has_holders}
 use Rattle.ds_chain.proofs.Shortest.{shortest_of_holder, shortest_given, given_shortest, holds_given}
 use Rattle.ds_chain.proofs.laws.chain_laws.Goals as goal
 
@@ -24,3 +24,6 @@ returns-clause-given g c = λ same is_same hops creator key places. (shortest_gi
 
 pub returns-clause-none : goal.returns-clause-none
 returns-clause-none g c = λ same is_same hops creator key. holds_given same is_same hops key creator
+
+pub returns-clause-kept : goal.returns-clause-kept
+returns-clause-kept g c = λ same is_same hops more creator key e. holder_kept same is_same hops more creator key e
