@@ -5,3 +5,4 @@ pub mod Levels
 pub mod Nearer
 pub mod Names
 pub mod Numbered
+pub mod Examples

@@ -6,18 +6,18 @@ use Rattle.ds_chain.specs.declared.hop.Hop.{Hop}
 abbrev pub IsHop : {K : Type 0} → List (Option (Hop K)) → ℕ → K → K → Type 0
 IsHop hops place by to = slice_get hops place ≡ Some (Some (record { by = by; to = to }))
 
--- The places lead from the creator to the key, each to a certificate that counts, signed by the key before.
+-- The places lead from the one key to the other: at each stands a certificate that counts, which the key before signed.
 abbrev pub LeadsTo : {K : Type 0} → List (Option (Hop K)) → K → List ℕ → K → Type 0
-LeadsTo hops creator [] key = creator ≡ key
-LeadsTo {K} hops creator (place ∷ places) key = (next : K) × IsHop hops place creator next × LeadsTo hops next places key
+LeadsTo hops from [] key = from ≡ key
+LeadsTo {K} hops from (place ∷ places) key = (next : K) × IsHop hops place from next × LeadsTo hops next places key
 
--- of two lists as long as each other, the first is the other, or is less at the first place where they differ
+-- Two lists as long as each other are the same, or the first is less where they first differ.
 abbrev pub IsLeastByPlaces : List ℕ → List ℕ → Type 0
 IsLeastByPlaces [] others = Unit {0}
 IsLeastByPlaces (place ∷ places) [] = Unit {0}
 IsLeastByPlaces (place ∷ places) (other ∷ others) = (place < other) ⊎ ((place ≡ other) × IsLeastByPlaces places others)
 
--- by length and then place by place, no other comes before the first
+-- The first list comes no later than the other: it is shorter, or as long and no greater place by place.
 abbrev pub ComesFirst : List ℕ → List ℕ → Type 0
 ComesFirst places others = (length places < length others) ⊎ ((length places ≡ length others) × IsLeastByPlaces places others)
 
