@@ -75,24 +75,17 @@ fn prints_the_text_of_each_run(rt: HostRuntime) -> Result<(), Fail> {
     Ok(())
 }
 
+/// Whether these words have no form, over an input that fails at once and an output.
+fn has_no_form(alloc: Global, words: &[&str]) -> Result<bool, AllocError> {
+    let (status, written) = outcome(alloc, words, bytes(alloc, HELLO.0)?, &[1], 1, &[])?;
+    Ok(status == Status::Usage && written.is_empty())
+}
+
 #[test]
 fn words_without_a_form_read_and_write_nothing(rt: HostRuntime) -> Result<(), Fail> {
-    for words in [
-        ["sim", "x"].as_slice(),
-        ["gen", "0"].as_slice(),
-        [].as_slice(),
-    ] {
-        let (status, written) = outcome(
-            rt.alloc(),
-            words,
-            bytes(rt.alloc(), HELLO.0)?,
-            &[1],
-            1,
-            &[],
-        )?;
-        assert_eq!(rt; status, Status::Usage);
-        assert!(rt; written.is_empty());
-    }
+    assert!(rt; has_no_form(rt.alloc(), &["sim", "x"])?);
+    assert!(rt; has_no_form(rt.alloc(), &["gen", "0"])?);
+    assert!(rt; has_no_form(rt.alloc(), &[])?);
     Ok(())
 }
 
