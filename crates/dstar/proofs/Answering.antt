@@ -1,12 +1,12 @@
 -- From the causes of a call to its answer by the bytes alone.
-use Rattle.std.proofs.Common.{◌≡◌, ◌⊎◌, ℕ, ◌<◌, ◌≤◌, ◌+◌, List, ◌++◌, length, Option, Some, None, refl, sym, ◌∙◌, ap, subst, inl, inr, arith, length-append}
-use Rattle.ds_base.specs.Counts.{Rose, Told, NoneLeft}
+use Rattle.std.proofs.Common.{◌≡◌, ℕ, ◌<◌, ◌≤◌, List, length, Option, Some, None, refl, ap, subst, inl, inr, arith, length-append}
+use Rattle.ds_base.specs.Counts.{Rose, Told}
 use Rattle.ds_base.proofs.Counting.{told_all}
 use Rattle.dstar.specs.declared.status.Status.{Status}
 use Rattle.dstar.specs.declared.status.Status.TheVariants.{Ok, Usage, ReadFault, WriteFault, TooLong, Document, NoMemory, KeeperFault, Spent, WireFault, No}
 use Rattle.dstar.specs.Outside.{input_limit}
 use Rattle.dstar.specs.Runs.{TextOf, IsNoDocument}
-use Rattle.dstar.specs.Causes.{Meeting, ReadWhole, Simulated, Stopped, Overran, Refused, Caused, Answers}
+use Rattle.dstar.specs.Causes.{Meeting, ReadWhole, Caused, Answers}
 
 -- the bytes that were read to the end are the ones that the input told
 whole_is : (m : Meeting) (bytes read : List ℕ) → m.told ≡ Some bytes → ReadWhole m read → read ≡ bytes

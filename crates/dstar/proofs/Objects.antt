@@ -1,9 +1,9 @@
 -- Lists of items and members, seen as the code sees them.
-use Rattle.std.proofs.Common.{◌≡◌, ℕ, List, [], ◌∷◌, map, refl, ap, Bool, ◌&&◌, ◌||◌, Bor, string_bytes, String, Global, rules, arith}
+use Rattle.std.proofs.Common.{◌≡◌, ℕ, List, [], ◌∷◌, map, refl, ap, ◌||◌, Bor, string_bytes, String, Global}
 use Rattle.std.specs.List.{list_all, list_any}
 use Rattle.serde_json.specs.declared.value.Value.{Value}
 use Rattle.serde_json.specs.Data.{Data}
-use Rattle.serde_json.specs.View.{view, items_of, members_view}
+use Rattle.serde_json.specs.View.{items_of, members_view}
 use Rattle.dstar.specs.Reading.{listed, is_among, has_only, same_text}
 
 pub listed_items_of : (ds : List Data) → listed (items_of ds) ≡ ds

@@ -1,5 +1,5 @@
 -- What a process's step is, seen by what the host keeps of it.
-use Rattle.std.proofs.Common.{◌≡◌, Bool, true, false, Option, Some, None, cond, refl, ap}
+use Rattle.std.proofs.Common.{◌≡◌, Bool, true, false, Some, None, cond, refl, ap}
 use Rattle.ds_script.specs.Process.{Process as Whole}
 use Rattle.ds_script.specs.Inner.{inner}
 use Rattle.dstar.specs.Things.{Process}

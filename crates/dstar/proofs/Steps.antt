@@ -1,11 +1,10 @@
 -- What a step keeps.
-use Rattle.std.proofs.Common.{◌≡◌, ℕ, List, [], ◌∷◌, length, slice_get, slice_set, get_or, position, Option, Some, None, refl, length-set}
-use Rattle.ds_script.specs.declared.op.Op.{Op}
+use Rattle.std.proofs.Common.{◌≡◌, ℕ, List, [], ◌∷◌, length, slice_get, get_or, position, Option, Some, None, refl, length-set}
 use Rattle.ds_script.specs.Inner.{Course, inner}
 use Rattle.dstar.specs.declared.runner.Ask.{Ask}
 use Rattle.dstar.specs.declared.runner.Ask.TheVariants.{SendTo, TakeFrom, Nothing}
-use Rattle.dstar.specs.Things.{Process, Mailbox, World, no_process, no_box}
-use Rattle.dstar.specs.World.{goes, sent, taken, takes, answered, ask_of, stepped, step, has_slot, is_own}
+use Rattle.dstar.specs.Things.{Process, World, no_process, no_box}
+use Rattle.dstar.specs.World.{sent, taken, takes, answered, ask_of, stepped, step, has_slot, is_own}
 
 length_sent : (w : World) (p : ℕ) (process : Process) (payload : List ℕ) (o : Option ℕ) → length (sent w p process payload o).processes ≡ length w.processes
 length_sent w p process payload None = length-set w.processes p _

@@ -11,7 +11,7 @@ use Rattle.ds_script.specs.Replay.{onward}
 use Rattle.ds_script.specs.Inner.{Course, inner, inner_op, register, register_limit, joined, loaded, noted, finished}
 use Rattle.dstar.specs.declared.runner.Ask.{Ask}
 use Rattle.dstar.specs.declared.runner.Ask.TheVariants.{SendTo, TakeFrom, Nothing}
-use Rattle.dstar.specs.Things.{Process, Mailbox, World, no_process, no_box}
+use Rattle.dstar.specs.Things.{Process, World, no_process, no_box}
 use Rattle.dstar.specs.World.{goes, sent, taken, takes, answered, ask_of, stepped, step, has_slot, is_own, moves, place_of}
 
 -- a course that has gone on isn't where it was

@@ -1,5 +1,5 @@
 -- What an ask keeps.
-use Rattle.std.specs.Prelude.{ℕ, ◌≤◌, ◌<◌, length}
+use Rattle.std.specs.Prelude.{◌≤◌, ◌<◌, length}
 use Rattle.dstar.specs.declared.runner.Ask.{Ask}
 use Rattle.dstar.specs.declared.runner.Ask.TheVariants.{SendTo, TakeFrom, Nothing}
 

@@ -1,5 +1,5 @@
 -- One host that runs: processes and mailboxes, and what an event makes of them.
-use Rattle.std.specs.Prelude.{ℕ, zero, suc, ◌+◌, ◌-◌, List, [], ◌∷◌, ◌++◌, length, map, slice_get, slice_set, get_or, position, Bool, true, false, not, ◌&&◌, ◌==◌, nat_lt, if◌then◌else◌, Option, Some, None, replicate}
+use Rattle.std.specs.Prelude.{ℕ, zero, suc, ◌+◌, ◌-◌, List, [], ◌∷◌, ◌++◌, length, map, slice_get, slice_set, get_or, position, Bool, true, not, ◌&&◌, ◌==◌, nat_lt, if◌then◌else◌, Option, Some, None, replicate}
 use Rattle.ds_label.specs.declared.rule.Rule.TheVariants.{NoBox}
 use Rattle.ds_script.specs.declared.op.Op.{Op}
 use Rattle.ds_script.specs.declared.op.Op.TheVariants.{Send, Take}
@@ -10,7 +10,7 @@ use Rattle.dstar.specs.Things.{Process, Mailbox, World, no_process, no_box}
 use Rattle.dstar.specs.declared.mailbox.Entry.TheVariants as entries
 use Rattle.dstar.specs.declared.runner.Ask.{Ask}
 use Rattle.dstar.specs.declared.runner.Ask.TheVariants as asks
-use Rattle.dstar.specs.Document.{Host, Document}
+use Rattle.dstar.specs.Document.{Host}
 
 -- ---- setup
 

@@ -1,4 +1,4 @@
-use Rattle.std.proofs.Common.{◌≡◌, ℕ, List, length, ◌++◌, sym, ◌∙◌, append_assoc, Result, OnOk}
+use Rattle.std.proofs.Common.{◌≡◌, ℕ, List, length, ◌++◌, append_assoc}
 use Rattle.std.proofs.lemmas.Result.{on_ok_weaker}
 use Rattle.dstar.proofs.text.push_box_line.Goals as goal
 

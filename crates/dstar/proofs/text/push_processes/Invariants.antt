@@ -1,4 +1,4 @@
-use Rattle.std.proofs.Common.{◌≡◌, ◌++◌, take, drop, flat_map, map}
+use Rattle.std.proofs.Common.{◌≡◌, ◌++◌, drop, flat_map}
 use Rattle.dstar.specs.Text.{process_sections}
 use Rattle.dstar.proofs.text.push_processes.Given as goal
 

@@ -1,4 +1,4 @@
-use Rattle.std.proofs.Common.{◌≡◌, ◌++◌, take, flat_map}
+use Rattle.std.proofs.Common.{◌≡◌, ◌++◌, take}
 use Rattle.dstar.specs.Text.{shown}
 use Rattle.dstar.proofs.text.push_shown.Given as goal
 

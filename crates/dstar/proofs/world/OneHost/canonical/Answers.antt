@@ -1,6 +1,5 @@
-use Rattle.std.proofs.Common.{◌<◌, sym, subst, arith}
+use Rattle.std.proofs.Common.{◌<◌, subst, arith}
 use Rattle.dstar.proofs.Rounds.{continues}
-use Rattle.dstar.specs.World.{canonical}
 use Rattle.dstar.proofs.world.OneHost.canonical.Goals as goal
 
 pub loop-preserved : goal.loop-preserved

@@ -1,4 +1,4 @@
-use Rattle.std.proofs.Common.{sym, ◌∙◌, arith}
+use Rattle.std.proofs.Common.{◌∙◌}
 use Rattle.dstar.proofs.Rounds.{tried}
 use Rattle.dstar.proofs.world.OneHost.round.Goals as goal
 
