@@ -18,6 +18,7 @@ mod world;
 use crate::status::Status;
 use crate::top::dstar_run;
 use ds_base::{CalmKeeper, ReadSource, WriteSink};
+use std::io::ErrorKind;
 use std::process::ExitCode;
 use std::time::{SystemTime, UNIX_EPOCH};
 use std::{env, io};
@@ -42,40 +43,71 @@ fn words(rt: &HostRuntime) -> io::Result<Vec<String>> {
     Ok(words)
 }
 
-/// The moment, in seconds since 1970; 0 where the clock stands before it.
-fn now(rt: &HostRuntime) -> io::Result<u64> {
-    match SystemTime::now(rt)?.duration_since(UNIX_EPOCH) {
-        Ok(since) => Ok(since.as_secs()),
-        Err(_) => Ok(0),
+/// The moment, in seconds since 1970; 0 where the clock can't be read or stands before it.
+fn now(rt: &HostRuntime) -> u64 {
+    match SystemTime::now(rt) {
+        Ok(moment) => match moment.duration_since(UNIX_EPOCH) {
+            Ok(since) => since.as_secs(),
+            Err(_) => 0,
+        },
+        Err(_) => 0,
     }
 }
 
-/// Says on standard error how the call ended, unless all was written.
-fn report(rt: &HostRuntime, status: Status) -> io::Result<()> {
-    match status {
-        Status::Ok => Ok(()),
-        Status::Document(code, place) => eprintln!(rt; "dstar: document {code} at {place}"),
-        other => eprintln!(rt; "dstar: status {}", other.code()),
+/// Answers the words `--help` and `--version`, where these are all.
+fn answer_of(words: &[String]) -> Option<&'static str> {
+    match words {
+        [word] => if word.as_str() == "--help" {
+            Some(HELP)
+        } else if word.as_str() == "--version" {
+            Some(VERSION)
+        } else {
+            None
+        },
+        _ => None,
     }
 }
 
-fn main(rt: HostRuntime) -> io::Result<ExitCode> {
-    let words = words(&rt)?;
-    if let [word] = words.as_slice() {
-        if word.as_str() == "--help" {
-            print!(rt; "{HELP}")?;
-            return Ok(ExitCode::from(0));
-        }
-        if word.as_str() == "--version" {
-            print!(rt; "{VERSION}")?;
-            return Ok(ExitCode::from(0));
-        }
+/// How the call ends, with what it writes. Words that can't be read as text have no form.
+fn ended(rt: &HostRuntime) -> Status {
+    let words = match words(rt) {
+        Ok(words) => words,
+        Err(error) => if error.kind() == ErrorKind::OutOfMemory {
+            return Status::NoMemory;
+        } else {
+            return Status::Usage;
+        },
+    };
+    if let Some(text) = answer_of(&words) {
+        return match print!(rt; "{text}") {
+            Ok(()) => Status::Ok,
+            Err(_) => Status::WriteFault,
+        };
     }
     let mut input = ReadSource::new(rt.stdin());
     let mut out = WriteSink::new(rt.stdout());
     let mut keeper = CalmKeeper::new();
-    let now = now(&rt)?;
-    let status = dstar_run(rt.alloc(), &words, &mut input, &mut out, &mut keeper, now);
-    report(&rt, status)?;
-    Ok(ExitCode::from(status.code()))
+    dstar_run(
+        rt.alloc(),
+        &words,
+        &mut input,
+        &mut out,
+        &mut keeper,
+        now(rt),
+    )
+}
+
+/// Says on standard error how the call ended, unless all was written.
+fn report(rt: &HostRuntime, status: Status) {
+    let _ = match status {
+        Status::Ok => Ok(()),
+        Status::Document(code, place) => eprintln!(rt; "dstar: document {code} at {place}"),
+        other => eprintln!(rt; "dstar: status {}", other.code()),
+    };
+}
+
+fn main(rt: HostRuntime) -> ExitCode {
+    let status = ended(&rt);
+    report(&rt, status);
+    ExitCode::from(status.code())
 }
