@@ -1,0 +1,17 @@
+pub mod Lists
+pub mod Keys
+pub mod FirstRule
+pub mod ProcessRules
+pub mod Mapping
+pub mod Scheme
+pub mod Plan
+pub mod Mailbox
+pub mod Lane
+pub mod Inlet
+pub mod Desk
+pub mod ExporterRules
+pub mod World
+pub mod Asking
+pub mod LaneWork
+pub mod Connecting
+pub mod Step

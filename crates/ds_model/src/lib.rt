@@ -1,0 +1,5 @@
+//! The plain world.
+#![tactic(auto)]
+
+/// Nothing yet.
+pub fn placeholder() {}
