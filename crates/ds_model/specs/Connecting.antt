@@ -7,7 +7,7 @@ use Rattle.ds_cert.specs.declared.lane.LaneCert.{LaneCert}
 use Rattle.ds_msg.specs.declared.message.Message.{Message}
 use Rattle.ds_model.specs.Keys.{same_key}
 use Rattle.ds_model.specs.FirstRule.{first_rule}
-use Rattle.ds_model.specs.Scheme.{Scheme, Item, Hello, Frame, Failure}
+use Rattle.ds_model.specs.Scheme.{Scheme, Item, Hello, Framed, Failure}
 use Rattle.ds_model.specs.Plan.{HostPlan}
 use Rattle.ds_model.specs.Desk.{Desk}
 use Rattle.ds_model.specs.ExporterRules.{receiver_rule}
@@ -31,7 +31,7 @@ arrive stream n k = record k { count = min (length stream) (k.count + n) }
 abbrev pub hello_of : Option Item → Option LaneCert
 hello_of None = None
 hello_of (Some (Hello lane)) = Some lane
-hello_of (Some (Frame number messages)) = None
+hello_of (Some (Framed number messages)) = None
 
 abbrev pub peer : Scheme → HostPlan → (arrived : List ℕ) → Option LaneCert
 peer s plan arrived = hello_of (slice_get (s.items plan.key plan.inlets arrived) 0)
@@ -64,7 +64,7 @@ fail k (Some failure) = Become (record k { failed = Some failure })
 abbrev pub accept_item : Scheme → HostPlan → Conn → List ℕ → Option Item → ConnAsk
 accept_item s plan k arrived None = fail k (s.ending plan.key plan.inlets arrived)
 accept_item s plan k arrived (Some (Hello lane)) = Become (record k { taken = suc k.taken })
-accept_item s plan k arrived (Some (Frame number messages)) = frame_from plan k number messages (peer s plan arrived)
+accept_item s plan k arrived (Some (Framed number messages)) = frame_from plan k number messages (peer s plan arrived)
 
 -- only with an empty hand, nothing passed and no failure
 abbrev pub accept_free : Scheme → HostPlan → Conn → List ℕ → List Message → Option Message → Option Failure → ConnAsk

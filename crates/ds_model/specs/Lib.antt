@@ -15,3 +15,7 @@ pub mod Asking
 pub mod LaneWork
 pub mod Connecting
 pub mod Step
+pub mod Views
+pub mod Schedule
+pub mod Text
+pub mod Lawful

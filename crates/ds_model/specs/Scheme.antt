@@ -23,7 +23,7 @@ pub record InletName : Type 0 where
 -- what is read of a stream: a lane certificate first, then frames, each with its number and its messages
 pub data Item : Type 0 where
   Hello : LaneCert → Item
-  Frame : (number : ℕ) → List Message → Item
+  Framed : (number : ℕ) → List Message → Item
 
 -- why a stream is broken: the cause's number, and the place in the stream
 pub record Failure : Type 0 where
