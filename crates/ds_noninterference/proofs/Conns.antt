@@ -1,0 +1,209 @@
+-- One event of a connection, with its host.
+use Rattle.std.proofs.Common.{◌≡◌, ◌≢◌, ◌<◌, ◌≤◌, ℕ, zero, suc, ◌-◌, Bool, true, false, cond, List, [], ◌∷◌, ◌++◌, ◌&&◌, ◌||◌, not, Option, Some, None, slice_get, get_or, option_map, take, drop, map, length, refl, sym, ◌∙◌, ap, ap₂, subst, subst₂, ◌⊎◌, inl, inr, arith, eqb, eqb-true, eq-eqb, ltb, leb, append_assoc, append-nil, le_of_lt}
+use Rattle.std.specs.Prelude.{position, if◌then◌else◌, ◌^◌, min, Contains}
+use Rattle.std.proofs.lemmas.List.Quantifiers.{position-Some}
+use native.Mathlib.Decide.{ℕ_discrete}
+use Rattle.ds_label.specs.declared.category.Kind.{Kind}
+use Rattle.ds_label.specs.declared.category.PubKey.{PubKey}
+use Rattle.ds_label.specs.declared.category.Category.{Category}
+use Rattle.ds_label.specs.declared.rule.Rule.{Rule}
+use Rattle.ds_label.specs.Lists.{any, all}
+use Rattle.ds_label.specs.Flow.{has, flows, same_label, union, placed, with_member}
+use Rattle.ds_label.specs.Names.{is_secrecy, same_kind, same_category, by_name}
+use Rattle.ds_cert.specs.declared.delegation.Delegation.{Delegation}
+use Rattle.ds_cert.specs.declared.lane.LaneCert.{LaneCert}
+use Rattle.ds_msg.specs.declared.message.Message.{Message}
+use Rattle.ds_script.specs.declared.op.Op.{Op}
+use Rattle.ds_script.specs.declared.op.Op.TheVariants as ops
+use Rattle.ds_script.specs.declared.note.Note.{Note}
+use Rattle.ds_script.specs.Inner.{Course, inner}
+use Rattle.ds_model.specs.Lists.{at, Everywhere, gathered}
+use Rattle.ds_model.specs.Keys.{same_key}
+use Rattle.ds_model.specs.FirstRule.{unless, or_else, first_rule, each_secret, each_member}
+use Rattle.ds_model.specs.ProcessRules.{may_take, may_relabel, mailbox_rule, can_grant}
+use Rattle.ds_model.specs.Scheme.{Scheme, InletName, Item, Hello, Framed, Failure}
+use Rattle.ds_model.specs.Plan.{HostPlan, BoxPlan, LanePlan, Plan, Source, Link, OfLane, Wire, IsHost, IsLane, host_plan, wire, box_plan, lane_plan, inlet_name, no_host, no_lane, no_inlet}
+use Rattle.ds_model.specs.Mailbox.{put, took}
+use Rattle.ds_model.specs.Lane.{admit, front, lifted}
+use Rattle.ds_model.specs.Inlet.{Inlet, is_fresh, numbered}
+use Rattle.ds_model.specs.Desk.{Desk, DeskEntry, Ticked, desk_after, Act, Delegating, Importing, Mapping, Reply, Done, Made, Local, Refuse, act_entry, reply_of}
+use Rattle.ds_model.specs.ExporterRules.{sender_rule, judge_send, receiver_rule}
+use Rattle.ds_model.specs.World.{Process, Mail, Mailbox, Waiting, Queue, Worker, LaneLine, Conn, Host, World}
+use Rattle.ds_model.specs.Asking.{Ask, Stay, Alone, Put, Admit, TakeFrom, Do, Judge, noted, noted_with, refused, usable_rule, box_of, label_of, Target, Not, Into, target, judge_box, send_rule, mail_of, send_here, send_away, send, message_of, take_rule, take_from, relabel, new_category, make, publish_rule, publish, ask_outer, ask_inner, lane_of, queue_at, ask_hand, ask, granted, told_taken, told_act, told_judged}
+use Rattle.ds_model.specs.LaneWork.{LaneAsk, Wait, Lift, Check, lane_ask, lane_ask_hand, told_lifted, told_checked, with_frame, still_good}
+use Rattle.ds_model.specs.Connecting.{ConnAsk, Quiet, Become, Number, JudgeOne, Hand, arrive, peer, inlet_of, fresh_frame, stale_frame, take_frame, frame_from, fail, accept_item, accept_free, accept, put_passed, deliver_to, deliver_from, deliver, target_rule, judge_delivery, told_delivery}
+use Rattle.ds_model.specs.Step.{Event, Step, Frame, Arrive, Accept, Deliver, Tick, Inject, Copy, oldest_in, admitted_lines, lined, judged, attached, perform, step_proc, front_of, checked_in, perform_lane, step_lane, Ends, fresh_in, perform_conn, stream_from, worker_at, stream_of, arrived, stream_at, injected, with_ends, step_conn, ticked, on_host, on_conn, resolve, happens, step, run}
+use Rattle.ds_model.specs.Views.{proc_in, proc_at, proc_view, view_of_proc, desk_at, arrived_in, arrived_at, arrived_to, view_of_host, host_view}
+use Rattle.ds_noninterference.specs.High.{is_in, high_proc, high_at, high_box, high_lane, high_source, high_conn, HighInlet, trusted_key, IsTrusted}
+use Rattle.ds_noninterference.specs.Marks.{Released, ToBox, ToLane, ByAct, Mark, Release, High, Low, unless_has, released, mark_released, mark_proc, high_or, mark_of, mark, unless_high, marks, Along}
+use Rattle.ds_noninterference.specs.Alike.{Alike, Hidden, AlikeProcs, AlikeBoxes, AlikeLanes, AlikeInlets, AlikeHosts, AlikeAt, AlikeWorlds}
+use Rattle.ds_noninterference.specs.Premises.{IsScheme, Fits, AtStart, IssuesInside, NothingForged}
+use Rattle.ds_noninterference.proofs.Places.{at_here, at_other, cond_case, at_each, both_at, one_at}
+use Rattle.ds_noninterference.proofs.Flow.{and_left, and_right, and_both, or_cases, or_left, or_right, or_none, not_both, same_category_is, flows_carries, same_label_carries, same_label_carries_back, union_keeps, same_key_is, key_same}
+use Rattle.ds_noninterference.proofs.Asks.{Follows, AskFacts, ask_facts, first_none, unless_none, TargetFacts, target_facts}
+use Rattle.ds_noninterference.proofs.Procs.{Mono, mono_at, box_mono, high_stays, taken_stays, act_stays, judged_stays, high_map, high_next, low_mono, low_box, alike_self, quiet_proc, quiet_box, quiet_queue, both_alone, both_desk, both_box, both_queue}
+use Rattle.ds_noninterference.proofs.ProcSteps.{SafeHand, SafeHands, bool_case, quiet_step, same_step}
+use Rattle.ds_noninterference.proofs.Lanes.{Idle, IdleAbroad, lifted_idle, front_empty, quiet_lane, same_lane}
+
+-- what holds of each thing that a connection asks, where these bytes have arrived
+
+pub record NumberFacts (s : Scheme) (plan : HostPlan) (y : Conn) (bytes : List ℕ) (i : ℕ) (fresh stale : Conn) : Type 0 where
+  pub cert : LaneCert
+  pub place : ℕ
+  pub number : ℕ
+  pub messages : List Message
+  pub read : peer s plan bytes ≡ Some cert
+  pub frame : slice_get (s.items plan.key plan.inlets bytes) place ≡ Some (Framed number messages)
+  pub inlet : inlet_of plan cert ≡ Some i
+  pub fresh_same : fresh.passed ≡ y.passed
+  pub stale_same : stale.passed ≡ y.passed
+
+pub record HandFacts (plan : HostPlan) (y : Conn) (b : ℕ) (next : Conn) : Type 0 where
+  pub message : Message
+  pub passed : y.passed ≡ Some message
+  pub box : box_of plan message.slot ≡ Some b
+  pub empty : next.passed ≡ None
+
+abbrev pub ConnFacts : Scheme → HostPlan → Conn → List ℕ → ConnAsk → Type 0
+ConnFacts s plan y bytes Quiet = Unit {0}
+ConnFacts s plan y bytes (Become next) = (next.passed ≡ y.passed) ⊎ (next.passed ≡ None)
+ConnFacts s plan y bytes (Number i n fresh stale) = NumberFacts s plan y bytes i fresh stale
+ConnFacts s plan y bytes (JudgeOne cert m rest) = peer s plan bytes ≡ Some cert
+ConnFacts s plan y bytes (Hand b m next) = HandFacts plan y b next
+
+frame_facts : (s : Scheme) (plan : HostPlan) (y : Conn) (bytes : List ℕ) (place n : ℕ) (ms : List Message) (o : Option LaneCert) → peer s plan bytes ≡ o → slice_get (s.items plan.key plan.inlets bytes) place ≡ Some (Framed n ms) → ConnFacts s plan y bytes (frame_from plan y n ms o)
+frame_facts s plan y bytes place n ms None e f = tt
+frame_facts s plan y bytes place n ms (Some cert) e f = go (inlet_of plan cert) refl
+  where
+    go : (o : Option ℕ) → inlet_of plan cert ≡ o → ConnFacts s plan y bytes (take_frame y n ms o)
+    go None q = tt
+    go (Some i) q = record { cert = cert; place = place; number = n; messages = ms; read = e; frame = f; inlet = q; fresh_same = refl; stale_same = refl }
+
+fail_facts : (s : Scheme) (plan : HostPlan) (y : Conn) (bytes : List ℕ) (o : Option Failure) → ConnFacts s plan y bytes (fail y o)
+fail_facts s plan y bytes None = tt
+fail_facts s plan y bytes (Some fault) = inl refl
+
+item_facts : (s : Scheme) (plan : HostPlan) (y : Conn) (bytes : List ℕ) (o : Option Item) → slice_get (s.items plan.key plan.inlets bytes) y.taken ≡ o → ConnFacts s plan y bytes (accept_item s plan y bytes o)
+item_facts s plan y bytes None e = fail_facts s plan y bytes (s.ending plan.key plan.inlets bytes)
+item_facts s plan y bytes (Some (Hello cert)) e = inl refl
+item_facts s plan y bytes (Some (Framed n ms)) e = frame_facts s plan y bytes y.taken n ms _ refl e
+
+free_facts : (s : Scheme) (plan : HostPlan) (y : Conn) (bytes : List ℕ) (hand : List Message) (passed : Option Message) (failed : Option Failure) → ConnFacts s plan y bytes (accept_free s plan y bytes hand passed failed)
+free_facts s plan y bytes [] None None = item_facts s plan y bytes _ refl
+free_facts s plan y bytes (m ∷ hand) passed failed = tt
+free_facts s plan y bytes [] (Some m) failed = tt
+free_facts s plan y bytes [] None (Some fault) = tt
+
+pub accept_facts : (s : Scheme) (plan : HostPlan) (y : Conn) (bytes : List ℕ) → ConnFacts s plan y bytes (accept s plan y bytes)
+accept_facts s plan y bytes = cond_case (ConnFacts s plan y bytes) plan.silent Quiet (accept_free s plan y bytes y.hand y.passed y.failed) (λ _. tt) (λ _. free_facts s plan y bytes y.hand y.passed y.failed)
+
+put_facts : (s : Scheme) (plan : HostPlan) (y : Conn) (bytes : List ℕ) (message : Message) (m : Mail Category) (o : Option ℕ) → y.passed ≡ Some message → box_of plan message.slot ≡ o → ConnFacts s plan y bytes (put_passed y m o)
+put_facts s plan y bytes message m None e q = tt
+put_facts s plan y bytes message m (Some b) e q = record { message = message; passed = e; box = q; empty = refl }
+
+to_facts : (s : Scheme) (plan : HostPlan) (y : Conn) (bytes : List ℕ) (cert : LaneCert) (hand : List Message) (o : Option Message) → peer s plan bytes ≡ Some cert → y.passed ≡ o → ConnFacts s plan y bytes (deliver_to plan y cert hand o)
+to_facts s plan y bytes cert hand (Some m) e q = put_facts s plan y bytes m (mail_of cert.exporter m) _ q refl
+to_facts s plan y bytes cert [] None e q = tt
+to_facts s plan y bytes cert (m ∷ rest) None e q = e
+
+from_facts : (s : Scheme) (plan : HostPlan) (y : Conn) (bytes : List ℕ) (o : Option LaneCert) → peer s plan bytes ≡ o → ConnFacts s plan y bytes (deliver_from plan y o)
+from_facts s plan y bytes None e = tt
+from_facts s plan y bytes (Some cert) e = to_facts s plan y bytes cert y.hand y.passed e refl
+
+pub deliver_facts : (s : Scheme) (plan : HostPlan) (y : Conn) (bytes : List ℕ) → ConnFacts s plan y bytes (deliver s plan y bytes)
+deliver_facts s plan y bytes = cond_case (ConnFacts s plan y bytes) plan.silent Quiet (deliver_from plan y (peer s plan bytes)) (λ _. tt) (λ _. from_facts s plan y bytes _ refl)
+
+-- the inlet that a certificate finds is its exporter's and has its number
+pub inlet_found : (plan : HostPlan) (cert : LaneCert) (i : ℕ) → inlet_of plan cert ≡ Some i → ((inlet_name plan i).exporter ≡ cert.exporter) × ((inlet_name plan i).lane ≡ cert.lane)
+inlet_found plan cert i e =
+    let found : (same_key (inlet_name plan i).exporter cert.exporter && (eqb (inlet_name plan i).lane cert.lane)) ≡ true = (position-Some _ plan.inlets i no_inlet e).1 in
+    (same_key_is _ _ (and_left _ _ found), eqb-true _ _ (and_right _ _ found))
+
+-- what a High connection's asks touch is High; what another's asks touch of inlets isn't
+
+abbrev pub QuietAsk : Category → List ℕ → Plan → ℕ → ConnAsk → Type 0
+QuietAsk c trusted plan r Quiet = Unit {0}
+QuietAsk c trusted plan r (Become next) = Unit {0}
+QuietAsk c trusted plan r (Number i n fresh stale) = HighInlet c trusted plan r i
+QuietAsk c trusted plan r (JudgeOne cert m rest) = Unit {0}
+QuietAsk c trusted plan r (Hand b m next) = (is_in trusted r ≡ true) × (has by_name c (box_plan (host_plan plan r) b).label ≡ true)
+
+abbrev pub SeenAsk : Category → List ℕ → Plan → ℕ → ConnAsk → Type 0
+SeenAsk c trusted plan r Quiet = Unit {0}
+SeenAsk c trusted plan r (Become next) = Unit {0}
+SeenAsk c trusted plan r (Number i n fresh stale) = HighInlet c trusted plan r i → ⊥
+SeenAsk c trusted plan r (JudgeOne cert m rest) = Unit {0}
+SeenAsk c trusted plan r (Hand b m next) = Unit {0}
+
+module _ (s : Scheme) (c : Category) (trusted : List ℕ) (plan : Plan) (r : ℕ) where
+  quiet_inlet : (x : Host) (i : ℕ) (f : Inlet → Inlet) → HighInlet c trusted plan r i → AlikeHosts c trusted plan r x (record x { inlets = at i f x.inlets })
+  quiet_inlet x i f high = record {
+    desk = refl;
+    procs = λ p. inl refl;
+    boxes = λ b. inl refl;
+    queues = λ l. inl refl;
+    workers = λ l. inl refl;
+    logs = λ l. inl refl;
+    inlets = one_at (λ j a b. (a ≡ b) ⊎ HighInlet c trusted plan r j) i f x.inlets (λ j n. inl refl) (inr high);
+  }
+
+  quiet_mail : (x : Host) (b : ℕ) (f : Mailbox → Mailbox) → (is_in trusted r ≡ true) → (has by_name c (box_plan (host_plan plan r) b).label ≡ true) → AlikeHosts c trusted plan r x (record x { boxes = at b f x.boxes })
+  quiet_mail x b f t l = record {
+    desk = refl;
+    procs = λ p. inl refl;
+    boxes = one_at (λ j a d. Alike (high_box c (is_in trusted r) (host_plan plan r) x.procs j) (high_box c (is_in trusted r) (host_plan plan r) x.procs j) a d) b f x.boxes (λ j n. inl refl) (inr (and_both _ _ t (or_left _ _ l), and_both _ _ t (or_left _ _ l)));
+    queues = λ l. inl refl;
+    workers = λ l. inl refl;
+    logs = λ l. inl refl;
+    inlets = λ i. inl refl;
+  }
+
+  pub quiet_conn : (x : Host) (y : Conn) (a : ConnAsk) → QuietAsk c trusted plan r a → AlikeHosts c trusted plan r x (perform_conn s (host_plan plan r) x y a).host
+  quiet_conn x y Quiet q = alike_self c trusted plan r x
+  quiet_conn x y (Become next) q = alike_self c trusted plan r x
+  quiet_conn x y (Number i n fresh stale) q = quiet_inlet x i (numbered n) q
+  quiet_conn x y (JudgeOne cert m rest) q = alike_self c trusted plan r x
+  quiet_conn x y (Hand b m next) q = quiet_mail x b (put (box_plan (host_plan plan r) b).room m) q.0 q.1
+
+  module _ (x x' : Host) (alike : AlikeHosts c trusted plan r x x') (y : Conn) where
+    pub same_host : (a : ConnAsk) → SeenAsk c trusted plan r a → AlikeHosts c trusted plan r (perform_conn s (host_plan plan r) x y a).host (perform_conn s (host_plan plan r) x' y a).host
+    same_host Quiet q = alike
+    same_host (Become next) q = alike
+    same_host (Number i n fresh stale) q = record {
+      desk = alike.desk;
+      procs = alike.procs;
+      boxes = alike.boxes;
+      queues = alike.queues;
+      workers = alike.workers;
+      logs = alike.logs;
+      inlets = both_at (λ j a b. (a ≡ b) ⊎ HighInlet c trusted plan r j) (λ j a b. (a ≡ b) ⊎ HighInlet c trusted plan r j) i (numbered n) (numbered n) x.inlets x'.inlets alike.inlets (λ j k e. e) same;
+    }
+      where
+        same : {o o' : Option Inlet} → (o ≡ o') ⊎ HighInlet c trusted plan r i → (option_map (numbered n) o ≡ option_map (numbered n) o') ⊎ HighInlet c trusted plan r i
+        same (inl e) = inl (ap (option_map (numbered n)) e)
+        same (inr e) = inr e
+    same_host (JudgeOne cert m rest) q = alike
+    same_host (Hand b m next) q = record {
+      desk = alike.desk;
+      procs = alike.procs;
+      boxes = both_at (λ j a d. Alike (high_box c (is_in trusted r) (host_plan plan r) x.procs j) (high_box c (is_in trusted r) (host_plan plan r) x'.procs j) a d) (λ j a d. Alike (high_box c (is_in trusted r) (host_plan plan r) x.procs j) (high_box c (is_in trusted r) (host_plan plan r) x'.procs j) a d) b (put (box_plan (host_plan plan r) b).room m) (put (box_plan (host_plan plan r) b).room m) x.boxes x'.boxes alike.boxes (λ j n e. e) same;
+      queues = alike.queues;
+      workers = alike.workers;
+      logs = alike.logs;
+      inlets = alike.inlets;
+    }
+      where
+        same : {u v : Bool} {o o' : Option Mailbox} → Alike u v o o' → Alike u v (option_map (put (box_plan (host_plan plan r) b).room m) o) (option_map (put (box_plan (host_plan plan r) b).room m) o')
+        same (inl e) = inl (ap (option_map (put (box_plan (host_plan plan r) b).room m)) e)
+        same (inr e) = inr e
+
+    seen_inlet : {X : Type 0} {a b : X} {i : ℕ} → (HighInlet c trusted plan r i → ⊥) → (a ≡ b) ⊎ HighInlet c trusted plan r i → a ≡ b
+    seen_inlet q (inl e) = e
+    seen_inlet q (inr h) = absurd (q h)
+
+    pub same_conn : (a : ConnAsk) → SeenAsk c trusted plan r a → (perform_conn s (host_plan plan r) x y a).conn ≡ (perform_conn s (host_plan plan r) x' y a).conn
+    same_conn Quiet q = refl
+    same_conn (Become next) q = refl
+    same_conn (Number i n fresh stale) q = ap (λ o. if fresh_in n o then fresh else stale) (seen_inlet q (alike.inlets i))
+    same_conn (JudgeOne cert m rest) q = ap (λ d. told_delivery m rest (judge_delivery s (host_plan plan r) d cert m) y) alike.desk
+    same_conn (Hand b m next) q = refl

@@ -1,0 +1,6 @@
+pub mod High
+pub mod Marks
+pub mod Alike
+pub mod Premises
+pub mod Outside
+pub mod Law

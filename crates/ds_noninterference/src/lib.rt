@@ -1,0 +1,5 @@
+//! The two-run law.
+#![tactic(auto)]
+
+/// Nothing yet.
+pub fn placeholder() {}
