@@ -5,3 +5,11 @@ pub mod Procs
 pub mod ProcSteps
 pub mod Lanes
 pub mod Conns
+pub mod Setting
+pub mod Kept
+pub mod Events
+pub mod KeptRuns
+pub mod Relation
+pub mod Induction
+pub mod Views
+pub mod Outside

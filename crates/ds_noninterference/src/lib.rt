@@ -1,5 +1,19 @@
-//! The two-run law.
+//! The two-run law: for each secrecy category, two runs that agree on what comes from outside and on what is released
+//! are the same to all that isn't high.
 #![tactic(auto)]
 
-/// Nothing yet.
-pub fn placeholder() {}
+ghost use Rattle.ds_noninterference.specs.Alike.{AlikeWorlds};
+ghost use Rattle.ds_noninterference.specs.Law.{AtEnd, SameProcesses, SameHosts, SameDesks, SameArrivals, SameSections};
+
+/// Two runs, from worlds that are equal but for what is high, whose marks agree, of trusted hosts that obey, with nothing
+/// forged: at their ends the worlds are equal but for what is high, each process that isn't high and each host that isn't
+/// trusted has equal views, so has each host's public state and each connection that isn't high, and the sections of a
+/// text that aren't high are equal, however things are printed.
+pub fn two_runs()
+    ensures alike { AtEnd AlikeWorlds }
+    ensures processes { AtEnd SameProcesses }
+    ensures hosts { AtEnd SameHosts }
+    ensures desks { AtEnd SameDesks }
+    ensures arrivals { AtEnd SameArrivals }
+    ensures outside { AtEnd SameSections }
+{}
