@@ -19,3 +19,4 @@ pub mod Views
 pub mod Schedule
 pub mod Text
 pub mod Lawful
+pub mod SmallWorlds

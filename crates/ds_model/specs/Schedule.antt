@@ -92,3 +92,7 @@ pub record IsCanonical (s : Scheme) (plan : Plan) (budget : ℕ) (w : World) (ev
   pub changes : Test
   pub decides : Decides s plan changes
   pub made : events ≡ canonical changes s plan budget w
+
+-- a world has one canonical schedule
+abbrev pub OneSchedule : Type 0
+OneSchedule = (s : Scheme) (plan : Plan) (budget : ℕ) (w : World) (one two : List Event) → IsCanonical s plan budget w one → IsCanonical s plan budget w two → one ≡ two

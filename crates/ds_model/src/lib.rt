@@ -1,5 +1,20 @@
-//! The plain world.
+//! The plain world: what hosts, processes, mailboxes, lanes and connections do, told once, over categories by their names
+//! alone. All that is stateful is held against it. Its definitions stand in `specs/`, a module a topic.
 #![tactic(auto)]
 
-/// Nothing yet.
-pub fn placeholder() {}
+ghost use Rattle.ds_model.specs.Schedule.{OneSchedule};
+ghost use Rattle.ds_model.specs.SmallWorlds.{Prints, IsRefused, IsReleased, IsScheduled};
+
+/// A world has one canonical schedule, by whatever test finds the events that change nothing.
+pub fn one_schedule()
+    ensures { OneSchedule }
+{}
+
+/// Small worlds, computed: a process prints; a send to a mailbox of the own host is refused by its label; the same send,
+/// by a process that owns the secret, is a release; and the canonical schedule of the one that prints.
+pub fn small_worlds()
+    ensures prints { Prints }
+    ensures refused { IsRefused }
+    ensures released { IsReleased }
+    ensures scheduled { IsScheduled }
+{}

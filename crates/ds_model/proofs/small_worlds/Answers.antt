@@ -1,0 +1,16 @@
+use Rattle.std.proofs.Common.{refl}
+use Rattle.ds_model.proofs.small_worlds.Goals as goal
+
+pub returns-clause-prints : goal.returns-clause-prints
+returns-clause-prints c = (refl, refl, refl)
+
+pub returns-clause-refused : goal.returns-clause-refused
+unfolding Rattle.ds_label.specs.Flow.flows
+returns-clause-refused c = (refl, refl)
+
+pub returns-clause-released : goal.returns-clause-released
+unfolding Rattle.ds_label.specs.Flow.flows
+returns-clause-released c = (refl, refl)
+
+pub returns-clause-scheduled : goal.returns-clause-scheduled
+returns-clause-scheduled c = (refl, refl)
