@@ -13,3 +13,4 @@ pub mod Relation
 pub mod Induction
 pub mod Views
 pub mod Outside
+pub mod Example

@@ -4,3 +4,4 @@ pub mod Alike
 pub mod Premises
 pub mod Outside
 pub mod Law
+pub mod Example
