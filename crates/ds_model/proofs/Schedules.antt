@@ -1,10 +1,8 @@
 -- Two tests that find what is still are one, and so are the schedules that they make.
-use Rattle.std.proofs.Common.{◌≡◌, ℕ, Bool, true, false, List, refl, sym, ◌∙◌, ap, arith}
+use Rattle.std.proofs.Common.{◌≡◌, Bool, true, false, refl, sym, ◌∙◌, ap}
 use Rattle.ds_model.specs.Scheme.{Scheme}
 use Rattle.ds_model.specs.Plan.{Plan}
-use Rattle.ds_model.specs.World.{World}
-use Rattle.ds_model.specs.Step.{Event}
-use Rattle.ds_model.specs.Schedule.{Test, Decides, canonical, IsCanonical, OneSchedule}
+use Rattle.ds_model.specs.Schedule.{Test, Decides, canonical, OneSchedule}
 
 same_bool : (a b : Bool) → (a ≡ false → b ≡ false) → (b ≡ false → a ≡ false) → a ≡ b
 same_bool true true f g = refl

@@ -1,6 +1,5 @@
 -- A connection in two parts: what it asks of at most one shared object of its host, and what it becomes by the answer.
-use Rattle.std.specs.Prelude.{ℕ, suc, ◌+◌, ◌==◌, Bool, ◌&&◌, List, [], ◌∷◌, ◌++◌, Option, Some, None, length, min, position, slice_get, if◌then◌else◌}
-use Rattle.ds_label.specs.declared.category.PubKey.{PubKey}
+use Rattle.std.specs.Prelude.{ℕ, suc, ◌+◌, ◌==◌, ◌&&◌, List, [], ◌∷◌, ◌++◌, Option, Some, None, length, min, position, slice_get, if◌then◌else◌}
 use Rattle.ds_label.specs.declared.category.Category.{Category}
 use Rattle.ds_label.specs.declared.rule.Rule.{Rule}
 use Rattle.ds_cert.specs.declared.lane.LaneCert.{LaneCert}
@@ -12,7 +11,7 @@ use Rattle.ds_model.specs.Plan.{HostPlan}
 use Rattle.ds_model.specs.Desk.{Desk}
 use Rattle.ds_model.specs.ExporterRules.{receiver_rule}
 use Rattle.ds_model.specs.Asking.{Target, Not, Into, judge_box, box_of, mail_of}
-use Rattle.ds_model.specs.World.{Mail, Conn, ConnLine, FrameLine, StaleLine, PassLine, DropLine}
+use Rattle.ds_model.specs.World.{Mail, Conn, FrameLine, StaleLine, PassLine, DropLine}
 
 -- Nothing; a step of its own; an inlet's answer to a frame's number, with what it becomes where the frame is fresh and
 -- where it is stale; that the desk judges a message; or a judged message into a mailbox, with what it becomes.

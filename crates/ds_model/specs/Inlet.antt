@@ -1,5 +1,5 @@
 -- An inlet: the number of the last frame that was taken from its lane, or none. It changes by its entries alone.
-use Rattle.std.specs.Prelude.{◌≡◌, ℕ, ◌<◌, ◌≤◌, Bool, true, List, [], ◌∷◌, Option, Some, None, nat_lt, if◌then◌else◌}
+use Rattle.std.specs.Prelude.{ℕ, ◌<◌, ◌≤◌, Bool, true, List, [], ◌∷◌, Option, Some, None, nat_lt, if◌then◌else◌}
 
 abbrev pub Inlet : Type 0
 Inlet = Option ℕ

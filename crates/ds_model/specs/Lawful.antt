@@ -2,19 +2,19 @@
 -- the same host met its own rules and the mailbox's. A message from another host was judged by the receiving exporter, after
 -- a fresh and signed frame; and where the frame is one that a lane of a running host wrote, the sender met its own rules,
 -- and the sending exporter judged the message when it was sent and again when it was framed.
-use Rattle.std.specs.Prelude.{◌≡◌, ℕ, Bool, true, false, List, [], ◌∷◌, ◌++◌, Option, Some, None, slice_get, map, Contains}
+use Rattle.std.specs.Prelude.{◌≡◌, ℕ, true, List, ◌∷◌, ◌++◌, Some, None, slice_get, map, Contains}
 use Rattle.ds_label.specs.declared.category.Category.{Category}
 use Rattle.ds_label.specs.Names.{by_name}
 use Rattle.ds_cert.specs.declared.lane.LaneCert.{LaneCert}
 use Rattle.ds_msg.specs.declared.message.Message.{Message}
 use Rattle.ds_model.specs.ProcessRules.{mailbox_rule}
 use Rattle.ds_model.specs.Scheme.{Scheme, Framed}
-use Rattle.ds_model.specs.Plan.{HostPlan, Plan, Source, Link, OfLane, IsLane, host_plan, wire, box_plan, lane_plan}
+use Rattle.ds_model.specs.Plan.{Plan, Link, OfLane, IsLane, host_plan, wire, box_plan, lane_plan}
 use Rattle.ds_model.specs.Mailbox.{PutIn, put_entry}
 use Rattle.ds_model.specs.Lane.{Queued, admit_entry}
 use Rattle.ds_model.specs.Inlet.{Inlet, is_fresh}
 use Rattle.ds_model.specs.World.{Process, Mail, Mailbox, Queue, Waiting, Worker, Conn, Host, World}
-use Rattle.ds_model.specs.Asking.{Put, ask, send_rule, mail_of, label_of, box_of, lane_of}
+use Rattle.ds_model.specs.Asking.{Put, ask, send_rule, mail_of, label_of, lane_of}
 use Rattle.ds_model.specs.LaneWork.{frame_rule, still_good}
 use Rattle.ds_model.specs.Connecting.{Hand, peer, inlet_of, deliver, judge_delivery}
 use Rattle.ds_model.specs.Step.{Event, Step, Frame, Accept, Deliver, judged, arrived, resolve, run}

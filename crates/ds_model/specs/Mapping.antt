@@ -1,6 +1,6 @@
 -- A host's own numbers of categories. A home category is one that the host itself made, with a number below 2^62; a
 -- foreign one is known where a row of the host's table holds it. Even numbers are for secrecy and odd ones for integrity.
-use Rattle.std.specs.Prelude.{ℕ, zero, suc, ◌+◌, ◌*◌, ◌-◌, ◌^◌, ◌/◌, ◌%◌, ◌==◌, Bool, ◌&&◌, ◌||◌, List, [], ◌∷◌, ◌++◌, Option, Some, None, slice_get, nat_lt, if◌then◌else◌}
+use Rattle.std.specs.Prelude.{ℕ, suc, ◌+◌, ◌*◌, ◌-◌, ◌^◌, ◌/◌, ◌%◌, ◌==◌, Bool, ◌&&◌, ◌||◌, List, [], ◌∷◌, ◌++◌, Option, Some, None, slice_get, nat_lt, if◌then◌else◌}
 use Rattle.ds_label.specs.declared.category.Kind.{Kind}
 use Rattle.ds_label.specs.declared.category.Kind.TheVariants.{Secrecy, Integrity}
 use Rattle.ds_label.specs.declared.category.PubKey.{PubKey}

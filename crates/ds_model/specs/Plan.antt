@@ -1,6 +1,6 @@
 -- The plan: what setup fixes and no event changes. Things are told apart by their places, from 0.
 -- Where the plan has no such thing, a named one stands for it: it has no key, an empty label and no room.
-use Rattle.std.specs.Prelude.{◌≡◌, ℕ, ◌<◌, Bool, true, List, [], length, get_or}
+use Rattle.std.specs.Prelude.{ℕ, ◌<◌, Bool, true, List, [], length, get_or}
 use Rattle.ds_label.specs.declared.category.PubKey.{PubKey}
 use Rattle.ds_label.specs.declared.category.Category.{Category}
 use Rattle.ds_cert.specs.declared.lane.LaneCert.{LaneCert}

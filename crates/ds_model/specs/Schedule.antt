@@ -3,7 +3,7 @@
 -- arrival of all that is left, and an accept once and then deliveries as long as they change something, in turn, until
 -- neither changes anything. What is still is left out. It ends after a round that kept nothing, and is cut, also in the
 -- middle of a round, where it has as many events as the budget.
-use Rattle.std.specs.Prelude.{◌≡◌, ◌↔◌, ℕ, zero, suc, ◌-◌, ◌==◌, ◌||◌, Bool, true, false, List, [], ◌∷◌, ◌++◌, length, slice_get, Option, Some, None, if◌then◌else◌}
+use Rattle.std.specs.Prelude.{◌≡◌, ◌↔◌, ℕ, zero, suc, ◌-◌, ◌==◌, ◌||◌, Bool, false, List, [], ◌∷◌, ◌++◌, length, slice_get, Option, Some, None, if◌then◌else◌}
 use Rattle.ds_model.specs.Lists.{gathered}
 use Rattle.ds_model.specs.Scheme.{Scheme}
 use Rattle.ds_model.specs.Plan.{Plan, host_plan}

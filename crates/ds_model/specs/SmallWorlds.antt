@@ -4,16 +4,14 @@ use Rattle.ds_label.specs.declared.category.Kind.TheVariants.{Secrecy}
 use Rattle.ds_label.specs.declared.category.PubKey.{PubKey}
 use Rattle.ds_label.specs.declared.category.Category.{Category}
 use Rattle.ds_label.specs.declared.rule.Rule.TheVariants.{NotFlow}
-use Rattle.ds_cert.specs.declared.delegation.Delegation.{Delegation}
 use Rattle.ds_script.specs.declared.op.Op.{Op}
 use Rattle.ds_script.specs.declared.op.Op.TheVariants as ops
 use Rattle.ds_script.specs.declared.note.Note.{Note}
 use Rattle.ds_script.specs.declared.note.Note.TheVariants as notes
-use Rattle.ds_script.specs.Inner.{Course}
 use Rattle.ds_model.specs.Scheme.{Scheme}
 use Rattle.ds_model.specs.Plan.{HostPlan, BoxPlan, Plan, no_signing}
-use Rattle.ds_model.specs.Mailbox.{Box, BoxEntry, PutIn}
-use Rattle.ds_model.specs.World.{Process, Mail, Mailbox, Host, World}
+use Rattle.ds_model.specs.Mailbox.{PutIn}
+use Rattle.ds_model.specs.World.{Mail, Mailbox, Host, World}
 use Rattle.ds_model.specs.Step.{Event, Step, step, run}
 use Rattle.ds_model.specs.Views.{proc_at}
 use Rattle.ds_model.specs.Schedule.{Test, canonical}

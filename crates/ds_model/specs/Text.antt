@@ -1,7 +1,7 @@
 -- The text of a world in sections: the first line, each running host's line, then its processes, mailboxes, lanes and
 -- inlets, and at last the connections to running hosts. A section is a thing's line with its entries. How each thing is
 -- printed is left open: a format says it, and all that it needs stands in the plan and the world.
-use Rattle.std.specs.Prelude.{ℕ, Bool, false, List, [], ◌∷◌, ◌++◌, Option, Some, None, length, slice_get, flat_map, if◌then◌else◌}
+use Rattle.std.specs.Prelude.{ℕ, Bool, false, List, [], ◌∷◌, ◌++◌, Option, Some, None, length, slice_get, if◌then◌else◌}
 use Rattle.ds_model.specs.Lists.{gathered}
 use Rattle.ds_model.specs.Plan.{HostPlan, Plan, host_plan, wire}
 use Rattle.ds_model.specs.Inlet.{Inlet}

@@ -1,52 +1,28 @@
 -- One event on whole worlds.
-use Rattle.std.proofs.Common.{◌≡◌, ◌≢◌, ◌<◌, ◌≤◌, ℕ, zero, suc, ◌-◌, Bool, true, false, cond, List, [], ◌∷◌, ◌++◌, ◌&&◌, ◌||◌, not, Option, Some, None, slice_get, get_or, option_map, take, drop, map, length, refl, sym, ◌∙◌, ap, ap₂, subst, subst₂, ◌⊎◌, inl, inr, arith, eqb, eqb-true, eq-eqb, ltb, leb, append_assoc, append-nil, le_of_lt}
-use Rattle.std.specs.Prelude.{position, if◌then◌else◌, ◌^◌, min, Contains}
-use Rattle.std.proofs.lemmas.List.Quantifiers.{position-Some}
-use native.Mathlib.Decide.{ℕ_discrete}
-use Rattle.ds_label.specs.declared.category.Kind.{Kind}
-use Rattle.ds_label.specs.declared.category.PubKey.{PubKey}
+use Rattle.std.proofs.Common.{◌≡◌, ◌≢◌, ℕ, zero, suc, Bool, true, false, List, [], ◌++◌, Option, Some, None, slice_get, option_map, take, refl, sym, ◌∙◌, ap, ap₂, subst, subst₂, ◌⊎◌, inl, inr, arith}
+use Rattle.std.specs.Prelude.{if◌then◌else◌}
 use Rattle.ds_label.specs.declared.category.Category.{Category}
-use Rattle.ds_label.specs.declared.rule.Rule.{Rule}
-use Rattle.ds_label.specs.Lists.{any, all}
-use Rattle.ds_label.specs.Flow.{has, flows, same_label, union, placed, with_member}
-use Rattle.ds_label.specs.Names.{is_secrecy, same_kind, same_category, by_name}
-use Rattle.ds_cert.specs.declared.delegation.Delegation.{Delegation}
+use Rattle.ds_label.specs.Names.{is_secrecy}
 use Rattle.ds_cert.specs.declared.lane.LaneCert.{LaneCert}
-use Rattle.ds_msg.specs.declared.message.Message.{Message}
-use Rattle.ds_script.specs.declared.op.Op.{Op}
-use Rattle.ds_script.specs.declared.op.Op.TheVariants as ops
-use Rattle.ds_script.specs.declared.note.Note.{Note}
-use Rattle.ds_script.specs.Inner.{Course, inner}
-use Rattle.ds_model.specs.Lists.{at, Everywhere, gathered}
-use Rattle.ds_model.specs.Keys.{same_key}
-use Rattle.ds_model.specs.FirstRule.{unless, or_else, first_rule, each_secret, each_member}
-use Rattle.ds_model.specs.ProcessRules.{may_take, may_relabel, mailbox_rule, can_grant}
-use Rattle.ds_model.specs.Scheme.{Scheme, InletName, Item, Hello, Framed, Failure}
-use Rattle.ds_model.specs.Plan.{HostPlan, BoxPlan, LanePlan, Plan, Source, Link, OfLane, Wire, IsHost, IsLane, host_plan, wire, box_plan, lane_plan, inlet_name, no_host, no_lane, no_inlet}
-use Rattle.ds_model.specs.Mailbox.{put, took}
-use Rattle.ds_model.specs.Lane.{admit, front, lifted}
-use Rattle.ds_model.specs.Inlet.{Inlet, is_fresh, numbered}
-use Rattle.ds_model.specs.Desk.{Desk, DeskEntry, Ticked, desk_after, Act, Delegating, Importing, Mapping, Reply, Done, Made, Local, Refuse, act_entry, reply_of}
-use Rattle.ds_model.specs.ExporterRules.{sender_rule, judge_send, receiver_rule}
-use Rattle.ds_model.specs.World.{Process, Mail, Mailbox, Waiting, Queue, Worker, LaneLine, Conn, Host, World}
-use Rattle.ds_model.specs.Asking.{Ask, Stay, Alone, Put, Admit, TakeFrom, Do, Judge, noted, noted_with, refused, usable_rule, box_of, label_of, Target, Not, Into, target, judge_box, send_rule, mail_of, send_here, send_away, send, message_of, take_rule, take_from, relabel, new_category, make, publish_rule, publish, ask_outer, ask_inner, lane_of, queue_at, ask_hand, ask, granted, told_taken, told_act, told_judged}
-use Rattle.ds_model.specs.LaneWork.{LaneAsk, Wait, Lift, Check, lane_ask, lane_ask_hand, told_lifted, told_checked, with_frame, still_good}
-use Rattle.ds_model.specs.Connecting.{ConnAsk, Quiet, Become, Number, JudgeOne, Hand, arrive, peer, inlet_of, fresh_frame, stale_frame, take_frame, frame_from, fail, accept_item, accept_free, accept, put_passed, deliver_to, deliver_from, deliver, target_rule, judge_delivery, told_delivery}
-use Rattle.ds_model.specs.Step.{Event, Step, Frame, Arrive, Accept, Deliver, Tick, Inject, Copy, oldest_in, admitted_lines, lined, judged, attached, perform, step_proc, front_of, checked_in, perform_lane, step_lane, Ends, fresh_in, perform_conn, stream_from, worker_at, stream_of, arrived, stream_at, injected, with_ends, step_conn, ticked, on_host, on_conn, resolve, happens, step, run}
-use Rattle.ds_model.specs.Views.{proc_in, proc_at, proc_view, view_of_proc, desk_at, arrived_in, arrived_at, arrived_to, view_of_host, host_view}
-use Rattle.ds_noninterference.specs.High.{is_in, high_proc, high_at, high_box, high_lane, high_source, high_conn, HighInlet, trusted_key, IsTrusted}
-use Rattle.ds_noninterference.specs.Marks.{Released, ToBox, ToLane, ByAct, Mark, Release, High, Low, unless_has, released, mark_released, mark_proc, high_or, mark_of, mark, unless_high, marks, Along}
-use Rattle.ds_noninterference.specs.Alike.{Alike, Hidden, AlikeProcs, AlikeBoxes, AlikeLanes, AlikeInlets, AlikeHosts, AlikeAt, AlikeWorlds}
-use Rattle.ds_noninterference.specs.Premises.{IsScheme, Fits, AtStart, IssuesInside, NothingForged}
-use Rattle.ds_noninterference.proofs.Places.{at_here, at_other, cond_case, at_each, both_at, one_at}
-use Rattle.ds_noninterference.proofs.Flow.{and_left, and_right, and_both, or_cases, or_left, or_right, or_none, not_both, same_category_is, flows_carries, same_label_carries, same_label_carries_back, union_keeps, same_key_is, key_same}
-use Rattle.ds_noninterference.proofs.Asks.{Follows, AskFacts, ask_facts, first_none, unless_none, TargetFacts, target_facts}
-use Rattle.ds_noninterference.proofs.Procs.{Mono, mono_at, box_mono, high_stays, taken_stays, act_stays, judged_stays, high_map, high_next, low_mono, low_box, alike_self, quiet_proc, quiet_box, quiet_queue, both_alone, both_desk, both_box, both_queue}
-use Rattle.ds_noninterference.proofs.ProcSteps.{SafeHand, SafeHands, bool_case, quiet_step, same_step}
-use Rattle.ds_noninterference.proofs.Lanes.{Idle, IdleAbroad, lifted_idle, front_empty, quiet_lane, same_lane}
-use Rattle.ds_noninterference.proofs.Conns.{ConnFacts, NumberFacts, HandFacts, accept_facts, deliver_facts, inlet_found, QuietAsk, SeenAsk, quiet_conn, same_host, same_conn}
-use Rattle.ds_noninterference.proofs.Kept.{KeptHost, KeptConn, Kept, all_at, keep_proc, keep_lane}
-use Rattle.ds_noninterference.proofs.Setting.{Setting, Sound, sound_along, within, lane_within, host_within, setting}
+use Rattle.ds_model.specs.Scheme.{Scheme}
+use Rattle.ds_model.specs.Plan.{HostPlan, Plan, Source, Link, OfLane, IsLane, host_plan, wire, lane_plan, inlet_name}
+use Rattle.ds_model.specs.Desk.{Ticked, desk_after}
+use Rattle.ds_model.specs.World.{Worker, Conn, Host, World}
+use Rattle.ds_model.specs.Connecting.{ConnAsk, Quiet, Become, Number, JudgeOne, Hand, arrive, peer, accept, deliver}
+use Rattle.ds_model.specs.Step.{Event, Step, Frame, Arrive, Accept, Deliver, Tick, Inject, Copy, Ends, perform_conn, stream_from, worker_at, stream_of, arrived, injected, with_ends, step_conn, ticked, on_host, on_conn, happens}
+use Rattle.ds_model.specs.Views.{proc_in}
+use Rattle.ds_noninterference.specs.High.{is_in, high_lane, high_source, high_conn, HighInlet, IsTrusted}
+use Rattle.ds_noninterference.specs.Marks.{High, mark_proc, high_or, mark_of}
+use Rattle.ds_noninterference.specs.Alike.{Hidden, AlikeHosts, AlikeAt, AlikeWorlds}
+use Rattle.ds_noninterference.specs.Premises.{IsScheme}
+use Rattle.ds_noninterference.proofs.Places.{both_at, one_at}
+use Rattle.ds_noninterference.proofs.Flow.{and_left, and_right, and_both, not_both}
+use Rattle.ds_noninterference.proofs.Procs.{alike_self}
+use Rattle.ds_noninterference.proofs.ProcSteps.{quiet_step, same_step}
+use Rattle.ds_noninterference.proofs.Lanes.{quiet_lane, same_lane}
+use Rattle.ds_noninterference.proofs.Conns.{ConnFacts, NumberFacts, accept_facts, deliver_facts, inlet_found, QuietAsk, SeenAsk, quiet_conn, same_host, same_conn}
+use Rattle.ds_noninterference.proofs.Kept.{Kept}
+use Rattle.ds_noninterference.proofs.Setting.{Setting, Sound}
 
 pub high_or_high : (b : Bool) (e : Event) → high_or b e ≡ High → b ≡ true
 high_or_high true e h = refl

@@ -1,10 +1,10 @@
 -- The example's two runs meet the premises of the law.
-use Rattle.std.proofs.Common.{◌≡◌, ◌≢◌, ℕ, zero, suc, ◌<◌, Bool, true, false, List, [], ◌∷◌, ◌&&◌, Option, Some, None, slice_get, get_or, refl, sym, ◌∙◌, ap, ◌⊎◌, inl, inr, arith}
+use Rattle.std.proofs.Common.{◌≡◌, ℕ, zero, suc, Bool, true, false, List, [], ◌∷◌, ◌&&◌, Some, None, slice_get, refl, sym, ◌∙◌, ap, inl, inr, arith}
 use Rattle.std.specs.Prelude.{Contains}
 use Rattle.ds_label.specs.Lists.{all}
 use Rattle.ds_cert.specs.declared.delegation.Delegation.{Delegation}
 use Rattle.ds_script.specs.declared.op.Op.{Op}
-use Rattle.ds_model.specs.Plan.{IsHost, IsLane, OfLane, wire, host_plan, no_wire}
+use Rattle.ds_model.specs.Plan.{IsHost, IsLane, OfLane, wire, host_plan}
 use Rattle.ds_model.specs.World.{Process, Queue, Worker, Host, World}
 use Rattle.ds_model.specs.Step.{Event, step}
 use Rattle.ds_model.specs.SmallWorlds.{empty_scheme, a_secret}
@@ -12,10 +12,8 @@ use Rattle.ds_noninterference.specs.High.{is_in, high_at, IsTrusted}
 use Rattle.ds_noninterference.specs.Marks.{Along}
 use Rattle.ds_noninterference.specs.Alike.{Alike, AlikeAt, AlikeWorlds}
 use Rattle.ds_noninterference.specs.Premises.{IsScheme, Fits, AtStart, Obeys, Unforged, NothingForged, IssuesInside}
-use Rattle.ds_noninterference.specs.Law.{Premises}
 use Rattle.ds_noninterference.specs.Example.{pair, pair_world, first_script, second_script, first_events, second_events, process, taking, IsMet}
 use Rattle.ds_noninterference.proofs.Flow.{and_left, and_right}
-use Rattle.std.proofs.lemmas.List.{get_or_past}
 
 none_some : {X : Type 0} (x : X) → None ≡ Some x → ⊥
 none_some x e = grind arith

@@ -4,7 +4,7 @@ use Rattle.ds_label.specs.declared.category.Category.{Category}
 use Rattle.ds_model.specs.Lists.{Everywhere}
 use Rattle.ds_model.specs.Plan.{HostPlan, Plan, host_plan, lane_plan}
 use Rattle.ds_model.specs.Inlet.{Inlet}
-use Rattle.ds_model.specs.World.{Process, Mailbox, Queue, Worker, LaneLine, Host, World}
+use Rattle.ds_model.specs.World.{Process, Mailbox, Host, World}
 use Rattle.ds_noninterference.specs.High.{is_in, high_at, high_box, high_lane, high_conn, HighInlet, IsTrusted}
 
 -- equal, or both high

@@ -6,11 +6,11 @@ use Rattle.ds_script.specs.declared.op.Op.TheVariants as ops
 use Rattle.ds_script.specs.declared.note.Note.{Note}
 use Rattle.ds_script.specs.declared.note.Note.TheVariants as notes
 use Rattle.ds_model.specs.Plan.{HostPlan, BoxPlan, Plan, no_signing}
-use Rattle.ds_model.specs.World.{Process, Mail, World}
+use Rattle.ds_model.specs.World.{Process, World}
 use Rattle.ds_model.specs.Step.{Event, Step, run}
-use Rattle.ds_model.specs.Views.{proc_at, view_of_proc}
+use Rattle.ds_model.specs.Views.{proc_at}
 use Rattle.ds_model.specs.SmallWorlds.{empty_scheme, only_key, a_secret, a_mail}
-use Rattle.ds_noninterference.specs.Marks.{Mark, Release, ToBox, Low, marks}
+use Rattle.ds_noninterference.specs.Marks.{Release, ToBox, Low, marks}
 use Rattle.ds_noninterference.specs.Law.{Premises}
 
 -- a host with two processes and a mailbox of the second, without a label

@@ -1,5 +1,5 @@
 -- The two-run law.
-use Rattle.std.specs.Prelude.{◌≡◌, ℕ, Bool, true, false, List}
+use Rattle.std.specs.Prelude.{◌≡◌, ℕ, true, false, List}
 use Rattle.ds_label.specs.declared.category.Category.{Category}
 use Rattle.ds_label.specs.Names.{is_secrecy}
 use Rattle.ds_model.specs.Scheme.{Scheme}

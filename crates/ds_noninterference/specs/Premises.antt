@@ -1,5 +1,5 @@
 -- What the law asks: of the scheme, of setup, of the trusted hosts, and of the outside.
-use Rattle.std.specs.Prelude.{◌≡◌, ◌≢◌, ℕ, Bool, true, false, List, [], ◌++◌, Option, Some, None, slice_get, ◌⊎◌, Contains, take}
+use Rattle.std.specs.Prelude.{◌≡◌, ◌≢◌, ℕ, Bool, true, false, List, [], ◌++◌, Some, None, slice_get, ◌⊎◌, Contains, take}
 use Rattle.ds_label.specs.declared.category.PubKey.{PubKey}
 use Rattle.ds_label.specs.declared.category.Category.{Category}
 use Rattle.ds_cert.specs.declared.delegation.Delegation.{Delegation}
