@@ -4,15 +4,18 @@ use Rattle.ds_label.specs.declared.category.Kind.TheVariants.{Secrecy}
 use Rattle.ds_label.specs.declared.category.PubKey.{PubKey}
 use Rattle.ds_label.specs.declared.category.Category.{Category}
 use Rattle.ds_label.specs.declared.rule.Rule.TheVariants.{NotFlow}
+use Rattle.ds_cert.specs.declared.lane.LaneCert.{LaneCert}
+use Rattle.ds_msg.specs.declared.message.Message.{Message}
 use Rattle.ds_script.specs.declared.op.Op.{Op}
 use Rattle.ds_script.specs.declared.op.Op.TheVariants as ops
 use Rattle.ds_script.specs.declared.note.Note.{Note}
 use Rattle.ds_script.specs.declared.note.Note.TheVariants as notes
-use Rattle.ds_model.specs.Scheme.{Scheme}
-use Rattle.ds_model.specs.Plan.{HostPlan, BoxPlan, Plan, no_signing}
-use Rattle.ds_model.specs.Mailbox.{PutIn}
-use Rattle.ds_model.specs.World.{Mail, Mailbox, Host, World}
-use Rattle.ds_model.specs.Step.{Event, Step, step, run}
+use Rattle.ds_model.specs.Lists.{at}
+use Rattle.ds_model.specs.Scheme.{Scheme, Hello, Framed}
+use Rattle.ds_model.specs.Plan.{HostPlan, BoxPlan, Plan, Link, no_signing}
+use Rattle.ds_model.specs.Mailbox.{PutIn, FoundFull}
+use Rattle.ds_model.specs.World.{Mail, Mailbox, Conn, ConnLine, FrameLine, StaleLine, PassLine, Host, World}
+use Rattle.ds_model.specs.Step.{Event, Step, Accept, Deliver, step, run}
 use Rattle.ds_model.specs.Views.{proc_at}
 use Rattle.ds_model.specs.Schedule.{Test, canonical}
 
@@ -121,3 +124,52 @@ moves w e = not (same_place (place_of w) (place_of (step empty_scheme one_host w
 abbrev pub IsScheduled : Type 0
 IsScheduled = (canonical moves empty_scheme one_host 5 printing ≡ Step 0 0 ∷ Step 0 0 ∷ [])
     × (canonical moves empty_scheme one_host 1 printing ≡ Step 0 0 ∷ [])
+
+-- Where the mailbox is full the sender notes the same, and the message stands in the mailbox's entries alone.
+abbrev pub sending_twice : World
+sending_twice = one_process (ops.Set 0 (codes "x") ∷ ops.Send 0 1 0 [] [] [] ∷ ops.Send 0 1 0 [] [] [] ∷ []) [] []
+
+abbrev pub IsFull : Type 0
+IsFull = (notes_of (after_steps 3 sending_twice) ≡ Some (notes.Sent ∷ notes.Sent ∷ []))
+    × (box_in (slice_get (after_steps 3 sending_twice).hosts 0) ≡ Some (record { waiting = a_mail ∷ []; entries = PutIn a_mail ∷ FoundFull a_mail ∷ [] }))
+
+-- One inlet counts the frames of all connections that read the same hello: a frame that two of them read is fresh on the
+-- first and stale on the second.
+abbrev pub other_key : PubKey
+other_key = record { 0 = 98 ∷ [] }
+
+abbrev pub a_lane : LaneCert
+a_lane = record { exporter = other_key; lane = 1; receiver = only_key; label = []; key = other_key; from = 0; until = 1; signature = [] }
+
+abbrev pub a_message : Message
+a_message = record { to = only_key; slot = 1; label = []; own = []; clear = []; certs = []; payload = codes "x" }
+
+-- whatever stream is read, it is the hello of that lane and a frame with that message
+abbrev pub reading_scheme : Scheme
+reading_scheme = record empty_scheme { items = λ key inlets stream. Hello a_lane ∷ Framed 0 (a_message ∷ []) ∷ [] }
+
+abbrev pub reading_host : HostPlan
+reading_host = record only_host { inlets = record { exporter = other_key; lane = 1 } ∷ [] }
+
+abbrev pub two_links : Plan
+two_links = record { hosts = reading_host ∷ []; wires = record { host = 0; source = Link } ∷ record { host = 0; source = Link } ∷ [] }
+
+abbrev pub new_conn : Conn
+new_conn = record { link = []; count = 0; taken = 0; hand = []; passed = None; failed = None; lines = [] }
+
+abbrev pub with_inlet : Host → Host
+with_inlet x = record x { inlets = None ∷ [] }
+
+abbrev pub reading : World
+reading = record { hosts = at 0 with_inlet (one_process [] [] []).hosts; conns = new_conn ∷ new_conn ∷ [] }
+
+-- each connection accepts the hello and the frame, and the first one delivers the message in two steps
+abbrev pub accepts : List Event
+accepts = Accept 0 ∷ Accept 0 ∷ Deliver 0 ∷ Deliver 0 ∷ Accept 1 ∷ Accept 1 ∷ []
+
+abbrev pub lines_of : ℕ → World → Option (List ConnLine)
+lines_of k w = option_map (λ y. y.lines) (slice_get w.conns k)
+
+abbrev pub IsStale : Type 0
+IsStale = (lines_of 0 (run reading_scheme two_links reading accepts) ≡ Some (FrameLine 0 1 ∷ PassLine 1 ∷ []))
+    × (lines_of 1 (run reading_scheme two_links reading accepts) ≡ Some (StaleLine 0 ∷ []))

@@ -3,7 +3,7 @@
 #![tactic(auto)]
 
 ghost use Rattle.ds_model.specs.Schedule.{OneSchedule};
-ghost use Rattle.ds_model.specs.SmallWorlds.{Prints, IsRefused, IsReleased, IsScheduled};
+ghost use Rattle.ds_model.specs.SmallWorlds.{Prints, IsRefused, IsReleased, IsScheduled, IsFull, IsStale};
 
 /// A world has one canonical schedule, by whatever test finds the events that change nothing.
 pub fn one_schedule()
@@ -11,10 +11,13 @@ pub fn one_schedule()
 {}
 
 /// Small worlds, computed: a process prints; a send to a mailbox of the own host is refused by its label; the same send,
-/// by a process that owns the secret, is a release; and the canonical schedule of the one that prints.
+/// by a process that owns the secret, is a release; the canonical schedule of the one that prints; a full mailbox, of which
+/// the sender learns nothing; and a frame that two connections read, fresh on one and stale on the other.
 pub fn small_worlds()
     ensures prints { Prints }
     ensures refused { IsRefused }
     ensures released { IsReleased }
     ensures scheduled { IsScheduled }
+    ensures full { IsFull }
+    ensures stale { IsStale }
 {}

@@ -14,3 +14,11 @@ returns-clause-released c = (refl, refl)
 
 pub returns-clause-scheduled : goal.returns-clause-scheduled
 returns-clause-scheduled c = (refl, refl)
+
+pub returns-clause-full : goal.returns-clause-full
+unfolding Rattle.ds_label.specs.Flow.flows
+returns-clause-full c = (refl, refl)
+
+pub returns-clause-stale : goal.returns-clause-stale
+unfolding Rattle.ds_label.specs.Flow.flows Rattle.ds_label.specs.Flow.same_label
+returns-clause-stale c = (refl, refl)
