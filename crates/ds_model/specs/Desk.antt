@@ -1,6 +1,6 @@
 -- A host's public state, which its processes and workers share: the moment, the table's rows, the certificates that it
 -- keeps, those that it issued, and its identity key's next leaf. It changes by its entries alone.
-use Rattle.std.specs.Prelude.{◌≡◌, ℕ, suc, ◌<◌, ◌≤◌, Bool, true, false, ◌&&◌, ◌||◌, ◌==◌, List, [], ◌∷◌, ◌++◌, Option, Some, None, length, max, nat_lt, bytes_eq, ◌⊎◌, if◌then◌else◌}
+use Rattle.std.specs.Prelude.{ℕ, suc, Bool, true, false, not, ◌&&◌, ◌||◌, ◌==◌, List, [], ◌∷◌, ◌++◌, Option, Some, None, length, max, nat_lt, nat_le, bytes_eq, if◌then◌else◌}
 use Rattle.ds_label.specs.declared.category.PubKey.{PubKey}
 use Rattle.ds_label.specs.declared.category.Category.{Category}
 use Rattle.ds_label.specs.declared.rule.Rule.{Rule}
@@ -11,6 +11,7 @@ use Rattle.ds_cert.specs.declared.delegation.Delegation.{Delegation}
 use Rattle.ds_cert.specs.declared.address.Address.{Address}
 use Rattle.ds_cert.specs.declared.cert.Cert.{Cert}
 use Rattle.ds_cert.specs.declared.cert.Cert.TheVariants as certs
+use Rattle.ds_model.specs.Stepping.{stepping}
 use Rattle.ds_model.specs.Keys.{same_key}
 use Rattle.ds_model.specs.FirstRule.{unless, first_rule}
 use Rattle.ds_model.specs.Mapping.{is_known, with_row, number_of, row_limit}
@@ -118,23 +119,27 @@ reply_of s plan d (Imported new) = Done
 reply_of s plan d (Ticked t) = Done
 reply_of s plan d Looked = Done
 
+abbrev pub is_none : Option Rule → Bool
+is_none None = true
+is_none (Some rule) = false
+
 -- when a refusal may stand in the desk's history
-abbrev pub DeniedNeeds : Scheme → HostPlan → Rule → Desk → Type 0
-DeniedNeeds s plan StoreFull d = (store_limit ≤ length d.store) ⊎ (address_limit ≤ length d.addresses)
-DeniedNeeds s plan TableFull d = row_limit ≤ length d.rows
-DeniedNeeds s plan KeySpent d = s.has_leaf plan.signing d.leaf ≡ false
-DeniedNeeds s plan BadCert d = Unit {0}
-DeniedNeeds s plan _ d = ⊥
+abbrev pub denied_needs : Scheme → HostPlan → Rule → Desk → Bool
+denied_needs s plan StoreFull d = nat_le store_limit (length d.store) || nat_le address_limit (length d.addresses)
+denied_needs s plan TableFull d = nat_le row_limit (length d.rows)
+denied_needs s plan KeySpent d = not (s.has_leaf plan.signing d.leaf)
+denied_needs s plan BadCert d = true
+denied_needs s plan _ d = false
 
--- when an entry may stand
-abbrev pub DeskNeeds : Scheme → HostPlan → DeskEntry → Desk → Type 0
-DeskNeeds s plan (Ticked t) d = Unit {0}
-DeskNeeds s plan (Delegated new) d = (length d.store < store_limit) × (s.has_leaf plan.signing d.leaf ≡ true)
-DeskNeeds s plan (Imported new) d = import_rule d new ≡ None
-DeskNeeds s plan (Mapped c) d = (is_known plan.key d.rows c ≡ true) ⊎ (length d.rows < row_limit)
-DeskNeeds s plan Looked d = Unit {0}
-DeskNeeds s plan (Denied rule) d = DeniedNeeds s plan rule d
+-- and any entry
+abbrev pub desk_needs : Scheme → HostPlan → DeskEntry → Desk → Bool
+desk_needs s plan (Ticked t) d = true
+desk_needs s plan (Delegated new) d = nat_lt (length d.store) store_limit && s.has_leaf plan.signing d.leaf
+desk_needs s plan (Imported new) d = is_none (import_rule d new)
+desk_needs s plan (Mapped c) d = is_known plan.key d.rows c || nat_lt (length d.rows) row_limit
+desk_needs s plan Looked d = true
+desk_needs s plan (Denied rule) d = denied_needs s plan rule d
 
-abbrev pub desk_replay : PubKey → List DeskEntry → Desk → Desk
-desk_replay here [] d = d
-desk_replay here (entry ∷ entries) d = desk_replay here entries (desk_after here entry d)
+-- one entry of a history of the desk
+abbrev pub desk_step : Scheme → HostPlan → Desk → DeskEntry → Option Desk
+desk_step s plan = stepping (desk_needs s plan) (desk_after plan.key)

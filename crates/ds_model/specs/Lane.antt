@@ -1,6 +1,7 @@
 -- A lane's waiting list, shared by the processes that send and the worker that lifts, for messages of any kind. It changes
 -- by its entries alone.
-use Rattle.std.specs.Prelude.{◌≡◌, ℕ, ◌<◌, ◌≤◌, List, [], ◌∷◌, ◌++◌, length, take, drop, min, nat_lt, if◌then◌else◌}
+use Rattle.std.specs.Prelude.{ℕ, Bool, ◌&&◌, ◌==◌, List, [], ◌∷◌, ◌++◌, Option, length, take, drop, min, nat_lt, nat_le, if◌then◌else◌}
+use Rattle.ds_model.specs.Stepping.{stepping}
 
 -- most messages of a frame
 abbrev pub frame_limit : ℕ
@@ -18,17 +19,17 @@ lane_after (QueueFull m) waiting = waiting
 lane_after (Lifted count) waiting = drop count waiting
 
 -- A lift takes all that wait, and at most 16, and not none.
-abbrev pub LaneNeeds : {M : Type 0} → ℕ → LaneEntry M → List M → Type 0
-LaneNeeds room (Queued m) waiting = length waiting < room
-LaneNeeds room (QueueFull m) waiting = room ≤ length waiting
-LaneNeeds room (Lifted count) waiting = (0 < count) × (count ≡ min frame_limit (length waiting))
+abbrev pub lane_needs : {M : Type 0} → (room : ℕ) → LaneEntry M → List M → Bool
+lane_needs room (Queued m) waiting = nat_lt (length waiting) room
+lane_needs room (QueueFull m) waiting = nat_le room (length waiting)
+lane_needs room (Lifted count) waiting = nat_lt 0 count && (count == min frame_limit (length waiting))
+
+-- one entry of a history of what waits
+abbrev pub lane_step : {M : Type 0} → (room : ℕ) → List M → LaneEntry M → Option (List M)
+lane_step room = stepping (lane_needs room) lane_after
 
 abbrev pub admit_entry : {M : Type 0} → ℕ → M → List M → LaneEntry M
 admit_entry room m waiting = if nat_lt (length waiting) room then Queued m else QueueFull m
-
-abbrev pub lane_replay : {M : Type 0} → List (LaneEntry M) → List M → List M
-lane_replay [] waiting = waiting
-lane_replay (entry ∷ entries) waiting = lane_replay entries (lane_after entry waiting)
 
 -- a message admitted to a list with this room
 abbrev pub admit : {M : Type 0} → ℕ → M → List M → List M

@@ -1,5 +1,6 @@
 pub mod Lists
 pub mod Keys
+pub mod Stepping
 pub mod FirstRule
 pub mod ProcessRules
 pub mod Mapping

@@ -1,6 +1,7 @@
 -- A mailbox of messages of any kind. It changes by its entries alone: what each one does, when it may stand, and which
 -- one a put makes.
-use Rattle.std.specs.Prelude.{ℕ, ◌<◌, ◌≤◌, List, [], ◌∷◌, ◌++◌, Option, Some, None, length, slice_get, nat_lt, if◌then◌else◌}
+use Rattle.std.specs.Prelude.{ℕ, Bool, List, [], ◌∷◌, ◌++◌, Option, Some, None, length, slice_get, nat_lt, nat_le, if◌then◌else◌}
+use Rattle.ds_model.specs.Stepping.{stepping}
 
 pub data BoxEntry (M : Type 0) : Type 0 where
   PutIn : M → BoxEntry M
@@ -15,18 +16,17 @@ box_after TookOut [] = []
 box_after TookOut (m ∷ waiting) = waiting
 
 -- fewer than `room` wait at a put, `room` of them where it is full, and one is there at a take
-abbrev pub BoxNeeds : {M : Type 0} → ℕ → BoxEntry M → List M → Type 0
-BoxNeeds room (PutIn m) waiting = length waiting < room
-BoxNeeds room (FoundFull m) waiting = room ≤ length waiting
-BoxNeeds room TookOut waiting = 0 < length waiting
+abbrev pub box_needs : {M : Type 0} → (room : ℕ) → BoxEntry M → List M → Bool
+box_needs room (PutIn m) waiting = nat_lt (length waiting) room
+box_needs room (FoundFull m) waiting = nat_le room (length waiting)
+box_needs room TookOut waiting = nat_lt 0 (length waiting)
+
+-- one entry of a history of what waits
+abbrev pub box_step : {M : Type 0} → (room : ℕ) → List M → BoxEntry M → Option (List M)
+box_step room = stepping (box_needs room) box_after
 
 abbrev pub put_entry : {M : Type 0} → ℕ → M → List M → BoxEntry M
 put_entry room m waiting = if nat_lt (length waiting) room then PutIn m else FoundFull m
-
--- the waiting messages after a list of entries
-abbrev pub box_replay : {M : Type 0} → List (BoxEntry M) → List M → List M
-box_replay [] waiting = waiting
-box_replay (entry ∷ entries) waiting = box_replay entries (box_after entry waiting)
 
 -- a mailbox: what waits, and its entries since the start
 pub record Box (M : Type 0) : Type 0 where
