@@ -1,1 +1,6 @@
 pub mod Schedules
+pub mod Places
+pub mod Needs
+pub mod Replays
+pub mod Touches
+pub mod Meeting

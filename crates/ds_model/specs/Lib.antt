@@ -16,6 +16,7 @@ pub mod Asking
 pub mod LaneWork
 pub mod Connecting
 pub mod Step
+pub mod Touch
 pub mod Views
 pub mod Schedule
 pub mod Text

@@ -3,11 +3,21 @@
 #![tactic(auto)]
 
 ghost use Rattle.ds_model.specs.Schedule.{OneSchedule};
+ghost use Rattle.ds_model.specs.Touch.{BoxesReplay, LanesReplay, InletsReplay, DesksReplay};
 ghost use Rattle.ds_model.specs.SmallWorlds.{Prints, IsRefused, IsReleased, IsScheduled, IsFull, IsStale};
 
 /// A world has one canonical schedule, by whatever test finds the events that change nothing.
 pub fn one_schedule()
     ensures { OneSchedule }
+{}
+
+/// Each event of a run touches at most one shared object of one host, by at most one entry, which may stand there. So each
+/// mailbox, each lane's waiting list, each inlet and each desk is the replay of the run's own entries in it.
+pub fn objects_replay()
+    ensures boxes { BoxesReplay }
+    ensures lanes { LanesReplay }
+    ensures inlets { InletsReplay }
+    ensures desks { DesksReplay }
 {}
 
 /// Small worlds, computed: a process prints; a send to a mailbox of the own host is refused by its label; the same send,
