@@ -4,3 +4,4 @@ pub mod Needs
 pub mod Replays
 pub mod Touches
 pub mod Meeting
+pub mod Sends

@@ -46,8 +46,8 @@ module _ (s : Scheme) (plan : Plan) (start : World) where
     pub asks : ask (host_plan plan h) p proc ≡ Put b mail next
     pub room : put_entry (box_plan (host_plan plan h) b).room mail box.waiting ≡ PutIn mail
 
-  -- it is a message for which the process's rules and the mailbox's hold at this event
-  pub record RulesHere (h p b : ℕ) (mail : Mail Category) (before : List Event) (e : Event) : Type 0 where
+  -- it is a message for which the process's rules and the mailbox's hold before this event
+  pub record RulesHere (h p b : ℕ) (mail : Mail Category) (before : List Event) : Type 0 where
     pub host : Host
     pub proc : Process
     pub message : Message
@@ -59,11 +59,10 @@ module _ (s : Scheme) (plan : Plan) (start : World) where
 
   -- MESSAGES FROM OTHER HOSTS, BACKWARDS
 
-  -- the event delivers this message, which connection k had passed, into a mailbox, where there is room
-  pub record PutsFrom (k : ℕ) (m : Message) (before : List Event) (e : Event) : Type 0 where
+  -- the event delivers this message, which connection k of this lane certificate had passed, into a mailbox, where there is room
+  pub record PutsFrom (k : ℕ) (lane : LaneCert) (m : Message) (before : List Event) (e : Event) : Type 0 where
     pub host : Host
     pub conn : Conn
-    pub lane : LaneCert
     pub place : ℕ
     pub box : Mailbox
     pub next : Conn
@@ -147,8 +146,7 @@ module _ (s : Scheme) (plan : Plan) (start : World) where
   WroteFrame h l number messages events = Past events (λ b e. (m : Message) × FramedOn h l number messages m b e)
 
   -- what holds where a connection's message is put
-  pub record RulesFrom (k : ℕ) (m : Message) (before : List Event) : Type 0 where
-    pub lane : LaneCert
+  pub record RulesFrom (k : ℕ) (lane : LaneCert) (m : Message) (before : List Event) : Type 0 where
     pub number : ℕ
     pub messages : List Message
     pub good : s.good_lane lane ≡ true
@@ -161,6 +159,17 @@ module _ (s : Scheme) (plan : Plan) (start : World) where
     pub link : (h l : ℕ) → (wire plan k).source ≡ Link → IsLane plan h l → lane ≡ (lane_plan (host_plan plan h) l).cert → WroteFrame h l number messages before → SentBy h l number messages m before
 
   -- of each event of the run that puts a message into a mailbox
+
+  abbrev pub LawfulHere : List Event → Type 0
+  LawfulHere events = (before : List Event) (e : Event) (later : List Event) → events ≡ before ++ e ∷ later → (h p b : ℕ) (mail : Mail Category) → PutsHere h p b mail before e → RulesHere h p b mail before
+
+  abbrev pub LawfulFrom : List Event → Type 0
+  LawfulFrom events = (before : List Event) (e : Event) (later : List Event) → events ≡ before ++ e ∷ later → (k : ℕ) (lane : LaneCert) (m : Message) → PutsFrom k lane m before e → RulesFrom k lane m before
+
   pub record Lawful (events : List Event) : Type 0 where
-    pub here : (before : List Event) (e : Event) (later : List Event) → events ≡ before ++ e ∷ later → (h p b : ℕ) (mail : Mail Category) → PutsHere h p b mail before e → RulesHere h p b mail before e
-    pub from : (before : List Event) (e : Event) (later : List Event) → events ≡ before ++ e ∷ later → (k : ℕ) (m : Message) → PutsFrom k m before e → RulesFrom k m before
+    pub here : LawfulHere events
+    pub from : LawfulFrom events
+
+-- messages of the own host are delivered only where the rules hold, in each run from any world
+abbrev pub SentLawfully : Type 0
+SentLawfully = (s : Scheme) (plan : Plan) (start : World) (events : List Event) → LawfulHere s plan start events

@@ -4,6 +4,7 @@
 
 ghost use Rattle.ds_model.specs.Schedule.{OneSchedule};
 ghost use Rattle.ds_model.specs.Touch.{BoxesReplay, LanesReplay, InletsReplay, DesksReplay};
+ghost use Rattle.ds_model.specs.Lawful.{SentLawfully};
 ghost use Rattle.ds_model.specs.SmallWorlds.{Prints, IsRefused, IsReleased, IsScheduled, IsFull, IsStale};
 
 /// A world has one canonical schedule, by whatever test finds the events that change nothing.
@@ -18,6 +19,12 @@ pub fn objects_replay()
     ensures lanes { LanesReplay }
     ensures inlets { InletsReplay }
     ensures desks { DesksReplay }
+{}
+
+/// A process's message gets into a mailbox of its own host only where its own rules and the mailbox's rule hold. Of messages
+/// from other hosts `specs/Lawful.antt` says what must have gone before.
+pub fn sent_lawfully()
+    ensures { SentLawfully }
 {}
 
 /// Small worlds, computed: a process prints; a send to a mailbox of the own host is refused by its label; the same send,
