@@ -1,19 +1,19 @@
 -- What an event touches may stand there, and each object is the replay of its own entries.
-use Rattle.std.proofs.Common.{◌≡◌, ◌≢◌, ℕ, zero, suc, Bool, true, false, cond, List, [], ◌∷◌, ◌++◌, Option, Some, None, slice_get, option_map, refl, sym, ◌∙◌, ap, ap₂, subst, arith, eqb, eqb-true}
+use Rattle.std.proofs.Common.{◌≡◌, ℕ, true, List, [], ◌∷◌, Option, Some, None, slice_get, option_map, refl, sym, ◌∙◌, ap, subst, eqb, eqb-true}
 use Rattle.std.specs.Prelude.{if◌then◌else◌, min, length}
 use Rattle.ds_label.specs.declared.category.Category.{Category}
 use Rattle.ds_script.specs.Replay.{onward, replay}
 use Rattle.ds_model.specs.Scheme.{Scheme}
 use Rattle.ds_model.specs.Plan.{HostPlan, Plan, host_plan, wire, box_plan, lane_plan}
-use Rattle.ds_model.specs.Mailbox.{BoxEntry, TookOut, put_entry, box_enter, box_after, box_needs, box_step, oldest}
-use Rattle.ds_model.specs.Lane.{LaneEntry, Lifted, admit_entry, lane_after, lane_needs, lane_step, frame_limit}
-use Rattle.ds_model.specs.Inlet.{Inlet, InletEntry, number_entry, inlet_after, inlet_needs, inlet_step}
-use Rattle.ds_model.specs.Desk.{Desk, DeskEntry, Ticked, Looked, desk_after, desk_needs, desk_step}
+use Rattle.ds_model.specs.Mailbox.{TookOut, put_entry, box_enter, box_after, box_needs, box_step, oldest}
+use Rattle.ds_model.specs.Lane.{Lifted, admit_entry, lane_after, lane_needs, lane_step, frame_limit}
+use Rattle.ds_model.specs.Inlet.{Inlet, number_entry, inlet_after, inlet_needs, inlet_step}
+use Rattle.ds_model.specs.Desk.{Ticked, desk_after, desk_needs, desk_step}
 use Rattle.ds_model.specs.World.{Process, Mail, Mailbox, Waiting, Queue, Worker, Conn, Host, World}
 use Rattle.ds_model.specs.Asking.{Ask, Stay, Alone, Put, Admit, TakeFrom, Do, Judge, ask}
 use Rattle.ds_model.specs.LaneWork.{LaneAsk, Wait, Lift, Check, lane_ask}
 use Rattle.ds_model.specs.Connecting.{ConnAsk, Quiet, Become, Number, JudgeOne, Hand, accept, deliver}
-use Rattle.ds_model.specs.Step.{Event, Step, Frame, Arrive, Accept, Deliver, Tick, Inject, Copy, arrived, resolve, step, run}
+use Rattle.ds_model.specs.Step.{Event, Step, Frame, Arrive, Accept, Deliver, Tick, Inject, Copy, arrived, resolve, step}
 use Rattle.ds_model.specs.Touch.{Touch, Untouched, InBox, InLane, InInlet, InDesk, put_touch, take_touch, take_touch_in, admit_touch, lift_touch, lift_touch_in, number_touch, touch_ask, touch_lane, touch_conn, touch_of_proc, touch_of_lane, touch_of_conn, touch_of_clock, touch_at, touch_in, touch, touches, Objects, objects, objects_at, touched, box_state, box_entry, lane_state, lane_entry, inlet_state, inlet_entry, desk_state, desk_entry, entries_of, Replayed, BoxesReplay, LanesReplay, InletsReplay, DesksReplay}
 use Rattle.ds_model.proofs.Places.{cond_case, none_some, some_is}
 use Rattle.ds_model.proofs.Needs.{some_more, put_may, admit_may, lift_may, number_may, act_may}

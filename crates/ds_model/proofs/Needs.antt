@@ -1,5 +1,5 @@
 -- The entry that an object makes may stand.
-use Rattle.std.proofs.Common.{◌≡◌, ◌<◌, ◌≤◌, ℕ, zero, suc, Bool, true, false, cond, not, ◌&&◌, ◌||◌, List, [], ◌∷◌, Option, Some, None, refl, sym, ◌∙◌, ap, ap₂, subst, arith, length, ltb, leb, eqb, eq-eqb}
+use Rattle.std.proofs.Common.{◌≡◌, ℕ, suc, Bool, true, false, not, ◌&&◌, ◌||◌, List, ◌∷◌, Option, Some, None, refl, ap, subst, arith, length, eq-eqb}
 use Rattle.std.specs.Prelude.{min, nat_lt, nat_le, if◌then◌else◌}
 use Rattle.std.proofs.lemmas.Bool.Decides.{nat_tests}
 use Rattle.ds_label.specs.declared.rule.Rule.{Rule}
@@ -8,14 +8,14 @@ use Rattle.ds_label.specs.declared.category.Category.{Category}
 use Rattle.ds_label.specs.declared.category.PubKey.{PubKey}
 use Rattle.ds_cert.specs.declared.cert.Cert.{Cert}
 use Rattle.ds_cert.specs.declared.cert.Cert.TheVariants as certs
-use Rattle.ds_model.specs.FirstRule.{unless, or_else, first_rule}
+use Rattle.ds_model.specs.FirstRule.{unless, or_else}
 use Rattle.ds_model.specs.Mapping.{is_known, row_limit}
 use Rattle.ds_model.specs.Scheme.{Scheme}
 use Rattle.ds_model.specs.Plan.{HostPlan}
-use Rattle.ds_model.specs.Mailbox.{BoxEntry, PutIn, FoundFull, put_entry, box_needs}
-use Rattle.ds_model.specs.Lane.{LaneEntry, Queued, QueueFull, Lifted, admit_entry, lane_needs, frame_limit}
-use Rattle.ds_model.specs.Inlet.{Inlet, InletEntry, Fresh, Stale, is_fresh, number_entry, inlet_needs}
-use Rattle.ds_model.specs.Desk.{Desk, DeskEntry, Delegated, Imported, Mapped, Denied, Act, Delegating, Importing, Mapping, act_entry, import_entry, import_rule, entry_unless, is_good, is_kept, is_kept_address, is_none, desk_needs, denied_needs, store_limit, address_limit}
+use Rattle.ds_model.specs.Mailbox.{PutIn, FoundFull, put_entry, box_needs}
+use Rattle.ds_model.specs.Lane.{Queued, QueueFull, Lifted, admit_entry, lane_needs, frame_limit}
+use Rattle.ds_model.specs.Inlet.{Inlet, Fresh, Stale, is_fresh, number_entry, inlet_needs}
+use Rattle.ds_model.specs.Desk.{Desk, Delegated, Imported, Mapped, Act, Delegating, Importing, Mapping, act_entry, import_entry, import_rule, entry_unless, is_good, is_kept, is_kept_address, is_none, desk_needs, denied_needs, store_limit, address_limit}
 
 -- what isn't below is at least
 pub not_below : (n m : ℕ) → nat_lt n m ≡ false → nat_le m n ≡ true

@@ -1,22 +1,18 @@
 -- A process puts a message into a mailbox of its host only where its own rules and the mailbox's hold.
-use Rattle.std.proofs.Common.{◌≡◌, ℕ, Bool, true, false, cond, List, [], ◌∷◌, Option, Some, None, slice_get, refl, sym, ◌∙◌, ap, subst}
-use Rattle.std.specs.Prelude.{if◌then◌else◌}
+use Rattle.std.proofs.Common.{◌≡◌, ℕ, List, Option, Some, None, slice_get, refl, subst}
 use Rattle.ds_label.specs.declared.category.Category.{Category}
 use Rattle.ds_label.specs.declared.rule.Rule.{Rule}
-use Rattle.ds_label.specs.declared.rule.Rule.TheVariants.{NotFlowToBox}
-use Rattle.ds_label.specs.Flow.{flows}
 use Rattle.ds_label.specs.Names.{by_name}
 use Rattle.ds_script.specs.declared.op.Op.{Op}
 use Rattle.ds_script.specs.declared.op.Op.TheVariants as ops
 use Rattle.ds_script.specs.Inner.{Course, inner}
 use Rattle.ds_msg.specs.declared.message.Message.{Message}
 use Rattle.ds_model.specs.Keys.{same_key}
-use Rattle.ds_model.specs.FirstRule.{unless, first_rule}
 use Rattle.ds_model.specs.ProcessRules.{mailbox_rule}
-use Rattle.ds_model.specs.Plan.{HostPlan, box_plan, host_plan}
+use Rattle.ds_model.specs.Plan.{HostPlan, host_plan}
 use Rattle.ds_model.specs.Desk.{Act}
 use Rattle.ds_model.specs.World.{Process, Mail}
-use Rattle.ds_model.specs.Asking.{Ask, Stay, Alone, Put, Admit, TakeFrom, Do, Judge, box_of, label_of, Target, Not, Into, target, judge_box, send_rule, mail_of, send_here, send_away, send, message_of, take_from, take_rule, relabel, make, publish, ask_outer, ask_inner, queue_at, lane_of, ask_hand, ask}
+use Rattle.ds_model.specs.Asking.{Ask, Stay, Alone, Put, Admit, TakeFrom, Do, Judge, box_of, label_of, Target, Not, Into, target, judge_box, send_rule, mail_of, send_here, send_away, message_of, take_from, take_rule, relabel, make, publish, ask_outer, ask_inner, queue_at, lane_of, ask_hand, ask}
 use Rattle.ds_model.specs.Lawful.{SentLawfully}
 use Rattle.ds_model.proofs.Places.{cond_case}
 

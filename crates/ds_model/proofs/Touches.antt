@@ -1,23 +1,22 @@
 -- Each event makes at most one entry in one object, where it may stand, and changes objects by that alone.
-use Rattle.std.proofs.Common.{◌≡◌, ◌≢◌, ℕ, zero, suc, Bool, true, false, cond, List, [], ◌∷◌, ◌++◌, Option, Some, None, slice_get, option_map, refl, sym, ◌∙◌, ap, ap₂, subst, arith, eqb, eqb-true, eq-eqb, ne_eqb}
+use Rattle.std.proofs.Common.{◌≡◌, ℕ, Bool, true, false, cond, [], ◌∷◌, Option, Some, None, slice_get, option_map, refl, sym, ◌∙◌, ap, ap₂, arith, eqb, eqb-true, eq-eqb, ne_eqb}
 use Rattle.std.specs.Prelude.{if◌then◌else◌, min, length}
 use native.Mathlib.Decide.{ℕ_discrete}
 use Rattle.ds_label.specs.declared.category.Category.{Category}
 use Rattle.ds_label.specs.declared.category.PubKey.{PubKey}
-use Rattle.ds_script.specs.Replay.{onward, replay}
 use Rattle.ds_model.specs.Lists.{at}
 use Rattle.ds_model.specs.Scheme.{Scheme}
-use Rattle.ds_model.specs.Plan.{HostPlan, Plan, host_plan, wire, box_plan, lane_plan}
-use Rattle.ds_model.specs.Mailbox.{BoxEntry, TookOut, put_entry, box_enter, box_after, box_needs, put, took, took_with, oldest}
-use Rattle.ds_model.specs.Lane.{LaneEntry, Lifted, admit_entry, lane_after, lane_needs, admit, lifted, frame_limit}
-use Rattle.ds_model.specs.Inlet.{Inlet, InletEntry, number_entry, inlet_after, inlet_needs, numbered}
-use Rattle.ds_model.specs.Desk.{Desk, DeskEntry, Ticked, Looked, desk_after, desk_needs}
+use Rattle.ds_model.specs.Plan.{HostPlan, Plan, host_plan, wire, lane_plan}
+use Rattle.ds_model.specs.Mailbox.{put_entry, box_enter, put, took, took_with, oldest}
+use Rattle.ds_model.specs.Lane.{Lifted, admit_entry, lane_after, admit, lifted, frame_limit}
+use Rattle.ds_model.specs.Inlet.{Inlet, number_entry, inlet_after, numbered}
+use Rattle.ds_model.specs.Desk.{Ticked, desk_after}
 use Rattle.ds_model.specs.World.{Process, Mail, Mailbox, Waiting, Queue, Worker, Conn, Host, World}
 use Rattle.ds_model.specs.Asking.{Ask, Stay, Alone, Put, Admit, TakeFrom, Do, Judge, ask}
 use Rattle.ds_model.specs.LaneWork.{LaneAsk, Wait, Lift, Check, lane_ask}
 use Rattle.ds_model.specs.Connecting.{ConnAsk, Quiet, Become, Number, JudgeOne, Hand, accept, deliver}
-use Rattle.ds_model.specs.Step.{Event, Step, Frame, Arrive, Accept, Deliver, Tick, Inject, Copy, arrived, perform, step_proc, perform_lane, step_lane, perform_conn, step_conn, ticked, on_host, resolve, happens, step, run}
-use Rattle.ds_model.specs.Touch.{Touch, Untouched, InBox, InLane, InInlet, InDesk, put_touch, take_touch, take_touch_in, admit_touch, lift_touch, lift_touch_in, number_touch, touch_ask, touch_lane, touch_conn, touch_of_proc, touch_of_lane, touch_of_conn, touch_of_clock, touch_at, touch_in, touch, Objects, objects, objects_at, touched}
+use Rattle.ds_model.specs.Step.{Event, Step, Frame, Arrive, Accept, Deliver, Tick, Inject, Copy, arrived, perform, step_proc, perform_lane, step_lane, perform_conn, step_conn, ticked, on_host, resolve, happens, step}
+use Rattle.ds_model.specs.Touch.{Touch, Untouched, InDesk, put_touch, take_touch, take_touch_in, admit_touch, lift_touch, lift_touch_in, number_touch, touch_ask, touch_lane, touch_conn, touch_of_proc, touch_of_lane, touch_of_conn, touch_of_clock, touch_at, touch_in, touch, Objects, objects, objects_at, touched}
 use Rattle.ds_model.proofs.Places.{at_here, at_other, at_alike, at_still, none_some, some_is}
 
 put_is : (k : PubKey) (b room : ℕ) (m : Mail Category) (o : Option Mailbox) (x : Objects) → slice_get x.boxes b ≡ o → record x { boxes = at b (put room m) x.boxes } ≡ touched k (put_touch b room m o) x
