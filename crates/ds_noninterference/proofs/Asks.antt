@@ -17,7 +17,7 @@ use Rattle.ds_model.specs.Desk.{Act}
 use Rattle.ds_model.specs.World.{Process}
 use Rattle.ds_model.specs.Asking.{Ask, Stay, Alone, Put, Admit, TakeFrom, Do, Judge, usable_rule, box_of, label_of, Target, Not, Into, target, judge_box, send_rule, send_here, send_away, send, message_of, take_rule, take_from, relabel, new_category, make, publish, ask_outer, ask_inner, lane_of, queue_at, ask_hand, ask}
 use Rattle.ds_label.specs.declared.rule.Rule.TheVariants.{NotFlowToBox}
-use Rattle.ds_noninterference.proofs.Places.{cond_case}
+use Rattle.ds_model.proofs.Places.{cond_case}
 use Rattle.ds_noninterference.proofs.Flow.{and_left, and_right, or_cases, or_left, or_right, flows_carries, union_keeps, same_key_is}
 
 -- High stays high, and the hand is as it was or empty.

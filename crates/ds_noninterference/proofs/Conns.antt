@@ -19,7 +19,8 @@ use Rattle.ds_model.specs.Connecting.{ConnAsk, Quiet, Become, Number, JudgeOne, 
 use Rattle.ds_model.specs.Step.{fresh_in, perform_conn}
 use Rattle.ds_noninterference.specs.High.{is_in, high_box, HighInlet}
 use Rattle.ds_noninterference.specs.Alike.{Alike, AlikeHosts}
-use Rattle.ds_noninterference.proofs.Places.{cond_case, both_at, one_at}
+use Rattle.ds_model.proofs.Places.{cond_case}
+use Rattle.ds_noninterference.proofs.Places.{both_at, one_at}
 use Rattle.ds_noninterference.proofs.Flow.{and_left, and_right, and_both, or_left, same_key_is}
 use Rattle.ds_noninterference.proofs.Procs.{alike_self}
 

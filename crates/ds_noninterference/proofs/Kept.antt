@@ -21,7 +21,7 @@ use Rattle.ds_model.specs.LaneWork.{LaneAsk, Wait, Lift, Check, lane_ask, told_l
 use Rattle.ds_model.specs.Step.{oldest_in, judged, attached, perform, step_proc, front_of, perform_lane, step_lane}
 use Rattle.ds_noninterference.specs.High.{is_in, high_lane, high_conn, trusted_key, IsTrusted}
 use Rattle.ds_noninterference.specs.Premises.{IsScheme}
-use Rattle.ds_noninterference.proofs.Places.{at_here, at_other, cond_case, at_each}
+use Rattle.ds_model.proofs.Places.{at_here, at_other, cond_case, at_each}
 use Rattle.ds_noninterference.proofs.Flow.{and_left, and_right, or_cases, not_both, same_category_is, same_label_carries}
 use Rattle.ds_noninterference.proofs.Asks.{Follows, AskFacts, ask_facts, first_none, unless_none}
 use Rattle.ds_noninterference.proofs.ProcSteps.{SafeHand, SafeHands}

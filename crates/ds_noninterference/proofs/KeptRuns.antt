@@ -20,7 +20,7 @@ use Rattle.ds_model.specs.Connecting.{ConnAsk, Quiet, Become, Number, JudgeOne, 
 use Rattle.ds_model.specs.Step.{Event, Step, Frame, Arrive, Accept, Deliver, Tick, Inject, Copy, fresh_in, perform_conn, arrived, injected, step_conn, ticked, on_host, on_conn, happens}
 use Rattle.ds_noninterference.specs.High.{high_source}
 use Rattle.ds_noninterference.specs.Premises.{IsScheme}
-use Rattle.ds_noninterference.proofs.Places.{cond_case}
+use Rattle.ds_model.proofs.Places.{cond_case}
 use Rattle.ds_noninterference.proofs.Flow.{and_left, and_right, or_cases, flows_carries, same_label_carries}
 use Rattle.ds_noninterference.proofs.Asks.{first_none, unless_none}
 use Rattle.ds_noninterference.proofs.Conns.{ConnFacts, accept_facts, deliver_facts}

@@ -9,7 +9,8 @@ use Rattle.ds_model.specs.LaneWork.{LaneAsk, Wait, Lift, Check, lane_ask, lane_a
 use Rattle.ds_model.specs.Step.{lined, front_of, checked_in, perform_lane, step_lane}
 use Rattle.ds_noninterference.specs.High.{high_lane, trusted_key}
 use Rattle.ds_noninterference.specs.Alike.{Hidden, AlikeHosts}
-use Rattle.ds_noninterference.proofs.Places.{cond_case, both_at, one_at}
+use Rattle.ds_model.proofs.Places.{cond_case}
+use Rattle.ds_noninterference.proofs.Places.{both_at, one_at}
 use Rattle.ds_noninterference.proofs.Flow.{not_both}
 use Rattle.ds_noninterference.proofs.Procs.{alike_self}
 use Rattle.ds_noninterference.proofs.ProcSteps.{bool_case}

@@ -14,7 +14,8 @@ use Rattle.ds_model.specs.Asking.{told_taken, told_act, told_judged}
 use Rattle.ds_model.specs.Step.{lined}
 use Rattle.ds_noninterference.specs.High.{is_in, high_proc, high_at, high_box}
 use Rattle.ds_noninterference.specs.Alike.{Alike, Hidden, AlikeProcs, AlikeHosts}
-use Rattle.ds_noninterference.proofs.Places.{at_here, at_other, cond_case, at_each, both_at, one_at}
+use Rattle.ds_model.proofs.Places.{at_here, at_other, cond_case, at_each}
+use Rattle.ds_noninterference.proofs.Places.{both_at, one_at}
 use Rattle.ds_noninterference.proofs.Flow.{and_left, and_right, and_both, or_cases, or_left, or_right, not_both, flows_carries, union_keeps}
 
 -- each process that was High is High
