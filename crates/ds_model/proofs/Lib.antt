@@ -5,3 +5,4 @@ pub mod Replays
 pub mod Touches
 pub mod Meeting
 pub mod Sends
+pub mod Answers

@@ -17,6 +17,7 @@ pub mod LaneWork
 pub mod Connecting
 pub mod Step
 pub mod Touch
+pub mod Answer
 pub mod Views
 pub mod Schedule
 pub mod Text

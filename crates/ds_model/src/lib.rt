@@ -4,6 +4,7 @@
 
 ghost use Rattle.ds_model.specs.Schedule.{OneSchedule};
 ghost use Rattle.ds_model.specs.Touch.{BoxesReplay, LanesReplay, InletsReplay, DesksReplay};
+ghost use Rattle.ds_model.specs.Answer.{ProcessesTold, WorkersTold, ConnectionsTold};
 ghost use Rattle.ds_model.specs.Lawful.{SentLawfully};
 ghost use Rattle.ds_model.specs.SmallWorlds.{Prints, IsRefused, IsReleased, IsScheduled, IsFull, IsStale};
 
@@ -19,6 +20,13 @@ pub fn objects_replay()
     ensures lanes { LanesReplay }
     ensures inlets { InletsReplay }
     ensures desks { DesksReplay }
+{}
+
+/// Each actor becomes what it asked and the answer alone say.
+pub fn actors_told()
+    ensures processes { ProcessesTold }
+    ensures workers { WorkersTold }
+    ensures connections { ConnectionsTold }
 {}
 
 /// A process's message gets into a mailbox of its own host only where its own rules and the mailbox's rule hold. Of messages
