@@ -23,3 +23,4 @@ pub mod Schedule
 pub mod Text
 pub mod Lawful
 pub mod SmallWorlds
+pub mod Carried

@@ -22,3 +22,7 @@ returns-clause-full c = (refl, refl)
 pub returns-clause-stale : goal.returns-clause-stale
 unfolding Rattle.ds_label.specs.Flow.flows Rattle.ds_label.specs.Flow.same_label
 returns-clause-stale c = (refl, refl)
+
+pub returns-clause-carried : goal.returns-clause-carried
+unfolding Rattle.ds_label.specs.Flow.flows Rattle.ds_label.specs.Flow.same_label Rattle.ds_label.specs.Flow.union
+returns-clause-carried c = (refl, refl, refl, refl)
