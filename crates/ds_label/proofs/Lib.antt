@@ -1,2 +1,4 @@
 pub mod Namings
 pub mod Members
+pub mod Derived
+pub mod Flows

@@ -1,6 +1,6 @@
 -- Names and numbers are told apart by their order, and only equal ones tie.
-use Rattle.std.proofs.Common.{◌≡◌, ℕ, Bool, true, false, ◌&&◌, eqb, ltb, cond, List, [], ◌∷◌, refl, sym, ap, ◌∙◌, arith, inl, inr}
-use Rattle.std.specs.Prelude.{◌==◌, bytes_eq}
+use Rattle.std.proofs.Common.{◌≡◌, ℕ, refl, sym, arith}
+use Rattle.std.specs.Prelude.{◌==◌}
 use Rattle.std.specs.Bool.{Decides}
 use Rattle.std.specs.declared.cmp.Ordering.{Ordering}
 use Rattle.std.specs.declared.cmp.Ordering.TheVariants.{Less, Equal, Greater}
@@ -13,9 +13,8 @@ use Rattle.std.proofs.lemmas.Map.Text.{is_eq-slice_cmp}
 use Rattle.ds_label.specs.declared.category.Kind.{Kind}
 use Rattle.ds_label.specs.declared.category.Kind.TheVariants.{Secrecy, Integrity}
 use Rattle.ds_label.specs.declared.category.Category.{Category}
-use Rattle.ds_label.specs.declared.category.PubKey.{PubKey}
 use Rattle.ds_label.specs.Flow.{Naming}
-use Rattle.ds_label.specs.Names.{same_kind, kind_cmp, category_cmp, by_name}
+use Rattle.ds_label.specs.Names.{same_kind, kind_cmp, by_name}
 use Rattle.ds_label.specs.Numbers.{by_number}
 
 -- a naming whose order is total, whose ties are equal, and whose test is that of the ties

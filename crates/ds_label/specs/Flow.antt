@@ -1,9 +1,9 @@
 -- Labels as sets of categories of any kind: the names that hosts exchange, or a host's own numbers.
-use Rattle.std.specs.Prelude.{Bool, List, [], ◌∷◌, ◌++◌, ◌||◌, ◌&&◌, not, filter}
+use Rattle.std.specs.Prelude.{◌≡◌, Bool, true, false, ◌⊎◌, Contains, List, [], ◌∷◌, ◌||◌, ◌&&◌, not, filter}
+use Rattle.std.specs.List.{list_any, list_all}
 use Rattle.std.specs.declared.cmp.Ordering.{Ordering}
 use Rattle.std.specs.declared.cmp.Ordering.TheVariants.{Less, Equal, Greater}
 use Rattle.std.specs.List.Sorted.{IsStrictlySortedBy}
-use Rattle.ds_label.specs.Lists.{any, all}
 
 -- how categories of a kind are told apart, which of them are for secrecy (the others are for integrity), and their order
 pub record Naming (C : Type 0) : Type 0 where
@@ -13,18 +13,23 @@ pub record Naming (C : Type 0) : Type 0 where
 
 -- whether a category is a member
 abbrev pub has : {C : Type 0} → Naming C → C → List C → Bool
-has naming c members = any (naming.same c) members
+has naming c members = list_any (naming.same c) members
 
 -- The first flows to the second under an ownership: each secrecy category of the first that isn't owned is in the second,
 -- and each integrity category of the second that isn't owned is in the first.
 unfoldable pub flows : {C : Type 0} → Naming C → List C → List C → List C → Bool
 flows naming first second owned =
-    all (λ c. not (naming.secret c) || (has naming c second || has naming c owned)) first
-    && all (λ c. naming.secret c || (has naming c first || has naming c owned)) second
+    list_all (λ c. not (naming.secret c) || (has naming c second || has naming c owned)) first
+    && list_all (λ c. naming.secret c || (has naming c first || has naming c owned)) second
+
+-- the same as facts of each category
+pub record Flows {C : Type 0} (naming : Naming C) (first second owned : List C) : Type 0 where
+  pub carries : (c : C) → naming.secret c ≡ true → Contains first c → Contains second c ⊎ Contains owned c
+  pub claims : (c : C) → naming.secret c ≡ false → Contains second c → Contains first c ⊎ Contains owned c
 
 -- whether both have the same members
 unfoldable pub same_label : {C : Type 0} → Naming C → List C → List C → Bool
-same_label naming first second = all (λ c. has naming c second) first && all (λ c. has naming c first) second
+same_label naming first second = list_all (λ c. has naming c second) first && list_all (λ c. has naming c first) second
 
 -- the members of the first that aren't in the second
 unfoldable pub minus : {C : Type 0} → Naming C → List C → List C → List C
@@ -44,7 +49,7 @@ with_member naming c (first ∷ rest) = placed (naming.compare c first) c first 
 -- the members of both
 unfoldable pub union : {C : Type 0} → Naming C → List C → List C → List C
 union naming first [] = first
-union naming first (c ∷ members) = with_member naming c (union naming first members)
+union naming first (c ∷ second) = union naming (with_member naming c first) second
 
 -- each member is below those after it, so none stands twice
 abbrev pub IsRising : {C : Type 0} → Naming C → List C → Type 0

@@ -1,5 +1,5 @@
-pub mod Lists
 pub mod Flow
 pub mod Names
 pub mod Numbers
 pub mod Rules
+pub mod Search

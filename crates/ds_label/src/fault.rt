@@ -2,6 +2,9 @@
 
 use thiserror::Error;
 
+/// Most members of a label.
+pub const MEMBER_LIMIT: usize = 64;
+
 /// Why a label could not grow.
 #[derive(Clone, Copy, Debug, PartialEq, Eq, Error)]
 pub enum LabelFault {

@@ -1,10 +1,13 @@
 //! Labels of names.
 
-ghost use Rattle.std.specs.Prelude.{◌≡◌, ◌≤◌, ◌<◌, ◌↔◌, [], length, IfOk, IsTrue, option_copied, slice_get};
-ghost use Rattle.ds_label.specs.Flow.{IsRising};
-ghost use Rattle.ds_label.specs.Names.{by_name};
+ghost use Rattle.std.specs.Prelude.{◌≡◌, ◌≤◌, ◌<◌, ◌↔◌, ◌||◌, not, [], length, filter, IfOk, IsOk, OnOk, OnErr, IsErrOf, IsTrue, option_copied, slice_get};
+ghost use Rattle.std.specs.List.{list_all};
+ghost use Rattle.ds_label.specs.Flow.{has, with_member, minus, flows, IsRising};
+ghost use Rattle.ds_label.specs.Names.{by_name, is_secrecy};
 
-use crate::category::Category;
+use crate::category::{Category, Kind};
+use crate::fault::{LabelFault, MEMBER_LIMIT};
+use crate::search::gap_for_name;
 use std::alloc::{AllocError, Global};
 use std::marker::Model;
 
@@ -83,4 +86,83 @@ impl Label {
             members: self.members.as_slice().to_vec(*self.members.allocator())?,
         })
     }
+
+    /// Whether the category is a member.
+    pub fn contains(&self, member: &Category) -> bool
+        ensures { result ≡ has by_name member.now self.now }
+    {
+        gap_for_name(self.members.as_slice(), member).is_none()
+    }
+
+    /// Makes the category a member. One that is a member already changes nothing. `TooMany` comes exactly where it would be
+    /// the 65th, `NoMemory` where memory runs out; after either nothing changed.
+    pub fn insert(&mut self, member: Category) -> Result<(), LabelFault>
+        ensures ok { OnOk result (self.new ≡ with_member by_name member self.old) }
+        ensures there { IsTrue (has by_name member self.old) → IsOk result }
+        ensures too_many { IsErrOf result LabelFault.TooMany ↔ (64 < length (with_member by_name member self.old)) }
+        ensures err { OnErr result (self.new ≡ self.old) }
+    {
+        if let Some(place) = gap_for_name(self.members.as_slice(), &member) {
+            if self.members.len() == MEMBER_LIMIT {
+                return Err(LabelFault::TooMany);
+            }
+            if self.members.insert(place, member).is_err() {
+                return Err(LabelFault::NoMemory);
+            }
+        }
+        Ok(())
+    }
+
+    /// The members that aren't members of the other. `AllocError` where memory runs out.
+    #[tactic(auto, unfolding(crate::specs::Flow::minus))]
+    pub fn minus(&self, other: &Label) -> Result<Label, AllocError>
+        ensures { IfOk result (λ l. l ≡ minus by_name self.now other.now) }
+    {
+        Ok(Label {
+            members: outside(*self.members.allocator(), self.members.as_slice(), other)?,
+        })
+    }
+
+    /// Whether this label flows to the other where nothing is owned: each secrecy category of this one is in the other, and
+    /// each integrity category of the other is in this one.
+    pub fn flows(&self, to: &Label) -> bool
+        ensures { result ≡ flows by_name self.now to.now [] }
+    {
+        self.flows_under(to, &Label::new(*self.members.allocator()))
+    }
+
+    /// Whether this label flows to the other under an ownership: each secrecy category of this one that isn't owned is in
+    /// the other, and each integrity category of the other that isn't owned is in this one.
+    #[tactic(auto, unfolding(crate::specs::Flow::flows))]
+    pub fn flows_under(&self, to: &Label, own: &Label) -> bool
+        ensures { result ≡ flows by_name self.now to.now own.now }
+    {
+        secrecy_within(self.members.as_slice(), to, own)
+            && integrity_within(to.members.as_slice(), self, own)
+    }
+}
+
+/// Whether each secrecy category of the list is in one label or the other.
+fn secrecy_within(members: &[Category], first: &Label, second: &Label) -> bool
+    ensures { result ≡ list_all (λ c. not (is_secrecy c.kind) || (has by_name c first.now || has by_name c second.now)) members.now }
+{
+    members.iter().all(|c| c.kind != Kind::Secrecy || first.contains(c) || second.contains(c))
+}
+
+/// Whether each integrity category of the list is in one label or the other.
+fn integrity_within(members: &[Category], first: &Label, second: &Label) -> bool
+    ensures { result ≡ list_all (λ c. is_secrecy c.kind || (has by_name c first.now || has by_name c second.now)) members.now }
+{
+    members.iter().all(|c| c.kind == Kind::Secrecy || first.contains(c) || second.contains(c))
+}
+
+/// The categories of the list that aren't members of the label.
+fn outside(alloc: Global, members: &[Category], label: &Label) -> Result<Vec<Category>, AllocError>
+    ensures { IfOk result (λ v. v.items ≡ filter (λ c. not (has by_name c label.now)) members.now) }
+{
+    members
+        .iter()
+        .copied()
+        .filter(|c| !label.contains(c))
+        .collect(alloc)
 }

@@ -4,11 +4,17 @@
 mod category;
 mod fault;
 mod label;
+mod laws;
 mod local_label;
 mod rule;
+mod search;
 
 pub use category::{Category, Kind, PubKey};
-pub use fault::LabelFault;
+pub use fault::{LabelFault, MEMBER_LIMIT};
 pub use label::Label;
+pub use laws::{flow_is_membership, names_are_sets, numbers_are_sets};
 pub use local_label::LocalLabel;
 pub use rule::Rule;
+
+#[cfg(test)]
+mod tests;

@@ -1,5 +1,6 @@
 pub mod Replay
 pub mod Inner
 pub mod Fits
+pub mod Names
 pub mod Process
 pub mod Sound

@@ -1,20 +1,17 @@
 //! Where a process is in its script, with its registers and notes.
 
 ghost use Rattle.std.specs.Prelude.{◌≡◌, min, Ok, false, ◌+◌, ◌<◌, ◌≤◌, ◌^◌, ◌++◌, [], ◌∷◌, length, replicate, OnOk, OnErr, IfOk, IfSome, Some, None, if◌then◌else◌};
-ghost use Rattle.ds_script.specs.Inner.{Course, register, loaded, noted, joined, inner_op};
+ghost use Rattle.ds_script.specs.Inner.{Course, register, loaded, noted, joined, inner_op, finished};
 ghost use Rattle.ds_script.specs.Fits.{IsOp};
 ghost use Rattle.ds_label.specs.declared.rule.Rule.TheVariants.{TooLong};
 ghost use Rattle.ds_script.specs.declared.note.Note.TheVariants.{Refused};
 
 use crate::note::Note;
-use crate::op::Op;
+use crate::op::{Op, REGISTER_LIMIT};
 use ds_label::Rule;
 use ds_wire::{Buffer, Bytes};
 use std::alloc::{AllocError, Global};
 use std::marker::Model;
-
-/// Most bytes of a register.
-pub const REGISTER_LIMIT: usize = 16384;
 
 /// The next operation's place, eight registers and the notes. Contracts see these, and for how many notes there is room.
 #[derive(Debug, Drop)]
@@ -115,6 +112,22 @@ impl CourseState {
         ensures room { self.new.room + 1 ≡ self.old.room }
     {
         self.notes.push_reserved(note);
+        self.place += 1;
+    }
+
+    /// The end of an operation: its note, for which there is room, what it loads, and the next place. Takes no memory.
+    pub fn finish(&mut self, note: Option<Note>, load: Option<(u8, Bytes)>)
+        requires place { self.old.course.place < 4096 }
+        requires room { 0 < self.old.room }
+        requires fits { IfSome load (λ l. (l.0 < 8) × (length l.1 ≤ 16384)) }
+        ensures course { self.new.course ≡ finished note load self.old.course }
+    {
+        if let Some(note) = note {
+            self.notes.push_reserved(note);
+        }
+        if let Some((reg, bytes)) = load {
+            self.registers[reg as usize] = bytes;
+        }
         self.place += 1;
     }
 

@@ -3,6 +3,7 @@
 
 mod actor;
 mod course;
+mod fitting;
 mod note;
 mod op;
 mod process;
@@ -10,6 +11,9 @@ mod usable;
 
 pub use actor::{Actor, ActorKind};
 pub use note::{Note, NoteList};
-pub use op::{Op, OpList};
+pub use op::{Op, OpList, REGISTER_LIMIT, SCRIPT_LIMIT};
 pub use process::Proc;
 pub use usable::{Usable, UsableList};
+
+#[cfg(test)]
+mod tests;

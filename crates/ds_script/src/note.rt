@@ -1,6 +1,6 @@
 //! What a process notes.
 
-ghost use Rattle.std.specs.Prelude.{◌≡◌, ◌++◌, [], ◌∷◌, length, OnOk, OnErr, option_copied, slice_get};
+ghost use Rattle.std.specs.Prelude.{◌≡◌, ◌++◌, [], ◌∷◌, length, IfOk, OnOk, OnErr, option_copied, slice_get};
 
 use ds_label::{Category, Label, Rule};
 use ds_wire::Bytes;
@@ -38,6 +38,39 @@ pub enum Note {
     Imported,
     /// The operation was refused.
     Refused(Rule),
+}
+
+impl Note {
+    /// An equal note. `AllocError` where memory runs out.
+    pub fn copy(&self) -> Result<Note, AllocError>
+        ensures { IfOk result (λ note. note ≡ self.now) }
+    {
+        Ok(match self {
+            Note::Print(bytes) => Note::Print(bytes.copy()?),
+            Note::Sent => Note::Sent,
+            Note::Took {
+                slot,
+                length,
+                granted,
+            } => Note::Took {
+                slot: *slot,
+                length: *length,
+                granted: *granted,
+            },
+            Note::SetLabel(label) => Note::SetLabel(label.copy()?),
+            Note::NewCat(category) => Note::NewCat(*category),
+            Note::Delegated { category, to } => Note::Delegated {
+                category: *category,
+                to: *to,
+            },
+            Note::Mapped { category, local } => Note::Mapped {
+                category: *category,
+                local: *local,
+            },
+            Note::Imported => Note::Imported,
+            Note::Refused(rule) => Note::Refused(*rule),
+        })
+    }
 }
 
 /// A list of notes. Contracts see the list.
@@ -87,4 +120,31 @@ impl NoteList {
         self.items.push(item)?;
         Ok(())
     }
+
+    /// Copies of notes. `AllocError` where memory runs out.
+    pub fn from_slice(alloc: Global, notes: &[Note]) -> Result<NoteList, AllocError>
+        ensures { IfOk result (λ l. l ≡ notes.now) }
+    {
+        Ok(NoteList {
+            items: note_copies(alloc, notes)?,
+        })
+    }
+
+    /// The notes, in order.
+    pub fn as_slice(&self) -> &[Note]
+        ensures { result.now ≡ self.now }
+    {
+        self.items.as_slice()
+    }
+}
+
+/// Equal notes. `AllocError` where memory runs out.
+fn note_copies(alloc: Global, notes: &[Note]) -> Result<Vec<Note>, AllocError>
+    ensures { IfOk result (λ v. v.items ≡ notes.now) }
+{
+    let mut copies = Vec::with_capacity(alloc, notes.len())?;
+    for note in notes {
+        copies.push(note.copy()?)?;
+    }
+    Ok(copies)
 }

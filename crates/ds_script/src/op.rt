@@ -1,11 +1,18 @@
 //! The operations of scripts.
 
-ghost use Rattle.std.specs.Prelude.{◌≡◌, ◌++◌, [], ◌∷◌, length, OnOk, OnErr, option_copied, slice_get};
+ghost use Rattle.std.specs.Prelude.{◌≡◌, ◌++◌, [], ◌∷◌, length, IfOk, OnOk, OnErr, IsTrue, ◌↔◌, option_copied, slice_get};
 
+use crate::fitting::all_fit;
 use ds_label::{Category, Kind, Label};
 use ds_wire::Bytes;
 use std::alloc::{AllocError, Global};
 use std::marker::Model;
+
+/// Most bytes of a register.
+pub const REGISTER_LIMIT: usize = 16384;
+
+/// Most operations of a script.
+pub const SCRIPT_LIMIT: usize = 4096;
 
 /// An operation. Registers are numbered from 0 to 7; a place is an operation's place in the script, from 0; hosts are
 /// numbered by their places in the document.
@@ -76,6 +83,94 @@ pub enum Op {
     },
 }
 
+impl Op {
+    ghost use Rattle.ds_script.specs.Fits.{IsOp};
+
+    /// Whether the operation may stand in a script of so many: its registers are below 8, its text has at most 16,384 bytes,
+    /// its place isn't past the script's end, and what it maps is a category whose number is below `2^62`.
+    pub fn fits(&self, size: usize) -> bool
+        ensures { IsTrue result ↔ IsOp size self.now }
+    {
+        match self {
+            Op::Set { reg, text } => *reg < 8 && text.len() <= REGISTER_LIMIT,
+            Op::Join { reg, left, right } => *reg < 8 && *left < 8 && *right < 8,
+            Op::IfEq { left, right, to } => *left < 8 && *right < 8 && *to as usize <= size,
+            Op::Jump { to } => *to as usize <= size,
+            Op::Print { reg }
+            | Op::Send { reg, .. }
+            | Op::Take { reg, .. }
+            | Op::Delegate { reg, .. }
+            | Op::Import { reg } => *reg < 8,
+            Op::SetLabel { .. } | Op::NewCat { .. } => true,
+            Op::Map { category } => category.number < 1 << 62,
+        }
+    }
+
+    /// An equal operation. `AllocError` where memory runs out.
+    pub fn copy(&self) -> Result<Op, AllocError>
+        ensures { IfOk result (λ op. op ≡ self.now) }
+    {
+        Ok(match self {
+            Op::Set { reg, text } => Op::Set {
+                reg: *reg,
+                text: text.copy()?,
+            },
+            Op::Join { reg, left, right } => Op::Join {
+                reg: *reg,
+                left: *left,
+                right: *right,
+            },
+            Op::IfEq { left, right, to } => Op::IfEq {
+                left: *left,
+                right: *right,
+                to: *to,
+            },
+            Op::Jump { to } => Op::Jump { to: *to },
+            Op::Print { reg } => Op::Print { reg: *reg },
+            Op::Send {
+                host,
+                slot,
+                reg,
+                label,
+                own,
+                clear,
+            } => Op::Send {
+                host: *host,
+                slot: *slot,
+                reg: *reg,
+                label: label.copy()?,
+                own: own.copy()?,
+                clear: clear.copy()?,
+            },
+            Op::Take { reg, slot } => Op::Take {
+                reg: *reg,
+                slot: *slot,
+            },
+            Op::SetLabel { label } => Op::SetLabel {
+                label: label.copy()?,
+            },
+            Op::NewCat { kind } => Op::NewCat { kind: *kind },
+            Op::Delegate {
+                reg,
+                category,
+                to,
+                from,
+                until,
+            } => Op::Delegate {
+                reg: *reg,
+                category: *category,
+                to: *to,
+                from: *from,
+                until: *until,
+            },
+            Op::Map { category } => Op::Map {
+                category: *category,
+            },
+            Op::Import { reg } => Op::Import { reg: *reg },
+        })
+    }
+}
+
 /// A list of operations. Contracts see the list.
 #[derive(Debug, Drop)]
 pub struct OpList {
@@ -92,6 +187,15 @@ impl Model for OpList {
 }
 
 impl OpList {
+    ghost use Rattle.ds_script.specs.Fits.{IsScript};
+
+    /// Whether a process may run them: at most 4,096 operations, each of which may stand in a script of so many.
+    pub fn is_script(&self) -> bool
+        ensures { IsTrue result ↔ IsScript self.now }
+    {
+        self.items.len() <= SCRIPT_LIMIT && all_fit(self.items.len(), self.items.as_slice())
+    }
+
     /// No operation. Takes no memory.
     pub fn new(alloc: Global) -> OpList
         ensures { result ≡ [] }
@@ -123,4 +227,31 @@ impl OpList {
         self.items.push(item)?;
         Ok(())
     }
+
+    /// The operations, in order.
+    pub fn as_slice(&self) -> &[Op]
+        ensures { result.now ≡ self.now }
+    {
+        self.items.as_slice()
+    }
+
+    /// An equal list. `AllocError` where memory runs out.
+    pub fn copy(&self) -> Result<OpList, AllocError>
+        ensures { IfOk result (λ l. l ≡ self.now) }
+    {
+        Ok(OpList {
+            items: op_copies(*self.items.allocator(), self.items.as_slice())?,
+        })
+    }
+}
+
+/// Equal operations. `AllocError` where memory runs out.
+fn op_copies(alloc: Global, ops: &[Op]) -> Result<Vec<Op>, AllocError>
+    ensures { IfOk result (λ v. v.items ≡ ops.now) }
+{
+    let mut copies = Vec::with_capacity(alloc, ops.len())?;
+    for op in ops {
+        copies.push(op.copy()?)?;
+    }
+    Ok(copies)
 }

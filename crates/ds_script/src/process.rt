@@ -1,14 +1,18 @@
 //! A process.
 
-ghost use Rattle.std.specs.Prelude.{◌≡◌, ◌<◌, ◌≤◌, ◌↔◌, length, IfOk, OnOk, OnErr, IfSome, IsTrue, Ok, Some, None, false, option_copied, slice_get, if◌then◌else◌};
+ghost use Rattle.std.specs.Prelude.{◌≡◌, ◌+◌, ◌^◌, ◌<◌, ◌≤◌, ◌↔◌, length, IfOk, OnOk, OnErr, IfSome, IsErr, IsTrue, Err, nat_le, ◌&&◌, vec_len, vec_capacity, Ok, Some, None, false, option_copied, slice_get, if◌then◌else◌};
+ghost use Rattle.std.specs.Bool.{OnTrue, OnFalse};
 ghost use Rattle.ds_script.specs.Inner.{inner, register};
 ghost use Rattle.ds_script.specs.Fits.{IsOp, IsScript};
+ghost use Rattle.ds_script.specs.Names.{with_name, is_named as is_named_in};
+ghost use Rattle.ds_label.specs.Flow.{with_member, union};
+ghost use Rattle.ds_label.specs.Numbers.{by_number};
 
 use crate::course::CourseState;
 use crate::note::Note;
 use crate::op::{Op, OpList};
 use crate::usable::{Usable, UsableList};
-use ds_label::LocalLabel;
+use ds_label::{Category, LabelFault, LocalLabel};
 use ds_wire::Bytes;
 use std::alloc::{AllocError, Global};
 use std::marker::Model;
@@ -44,7 +48,7 @@ impl Model for Proc {
 }
 
 impl Proc {
-    ghost use Rattle.ds_script.specs.Process.{fresh, finished_process};
+    ghost use Rattle.ds_script.specs.Process.{fresh, finished_process, made_process, granted_process};
 
     /// A process at its script's first operation, with empty registers and no note. Takes no memory. It needs a script of at
     /// most 4,096 operations with registers below 8, texts of at most 16,384 bytes, places not past the script's end and,
@@ -195,4 +199,88 @@ impl Proc {
         self.clear_room.clear();
         self.clear_room.reserve(64)
     }
+
+    /// The end of an operation that isn't run inside the process: its note, what it loads into a register, and the next
+    /// place. What was mapped joins the usable names unless its category is among them. It needs room, a process that
+    /// hasn't ended, and for what is loaded a register below 8 and at most 16,384 bytes. Takes no memory.
+    pub fn finish(&mut self, note: Option<Note>, load: Option<(u8, Bytes)>)
+        requires room { 0 < self.old.room }
+        requires going { self.old.process.course.place < length self.old.process.script }
+        requires fits { IfSome load (λ l. (l.0 < 8) × (length l.1 ≤ 16384)) }
+        ensures process { self.new.process ≡ finished_process note load self.old.process }
+        ensures spare { self.new.spare ≡ self.old.spare }
+    {
+        if let Some(Note::Mapped { category, local }) = &note {
+            join_names(&mut self.names, *category, *local);
+        }
+        self.course.finish(note, load);
+    }
+
+    /// The label becomes this one. Takes no memory.
+    pub fn put_label(&mut self, label: LocalLabel)
+        ensures process { self.new.process ≡ record self.old.process { label = label } }
+        ensures room { self.new.room ≡ self.old.room }
+        ensures spare { self.new.spare ≡ self.old.spare }
+    {
+        self.label = label;
+    }
+
+    /// A category that the process made: it is owned, and it and its number join the usable names unless it is among them.
+    /// It is refused where the ownership would get a 65th member: `TooMany`, unless memory runs out, which is `NoMemory`.
+    /// After either the process is the same.
+    pub fn make(&mut self, category: Category, local: u64) -> Result<(), LabelFault>
+        requires { self.old.process.made + 1 < 2 ^ 32 }
+        ensures ok { OnOk result (self.new.process ≡ made_process category local self.old.process) }
+        ensures too_many { result ≡ Err LabelFault.TooMany → 64 < length (with_member by_number local self.old.process.own) }
+        ensures refused { 64 < length (with_member by_number local self.old.process.own) → IsErr result }
+        ensures err { OnErr result (self.new.process ≡ self.old.process) }
+        ensures room { self.old.room ≤ self.new.room }
+        ensures spare { self.new.spare ≡ self.old.spare }
+    {
+        if self.names.reserve(2).is_err() {
+            return Err(LabelFault::NoMemory);
+        }
+        self.own.insert(local)?;
+        join_names(&mut self.names, category, local);
+        self.made += 1;
+        Ok(())
+    }
+
+    /// Adds to the ownership and the clearance, and says whether it did: neither is added where either would get a 65th
+    /// member. It needs room for a grant. Takes no memory.
+    pub fn grant(&mut self, own: &LocalLabel, clear: &LocalLabel) -> bool
+        requires { 0 < self.old.spare }
+        ensures fits { result ≡ (nat_le (length (union by_number self.old.process.own own.now)) 64 && nat_le (length (union by_number self.old.process.clear clear.now)) 64) }
+        ensures granted { OnTrue result (self.new.process ≡ granted_process own.now clear.now self.old.process) }
+        ensures refused { OnFalse result (self.new.process ≡ self.old.process) }
+        ensures room { self.new.room ≡ self.old.room }
+    {
+        if !self.own.union_into(own, &mut self.own_room) {
+            return false;
+        }
+        if !self.clear.union_into(clear, &mut self.clear_room) {
+            return false;
+        }
+        self.own.exchange(&mut self.own_room);
+        self.clear.exchange(&mut self.clear_room);
+        true
+    }
+}
+
+/// The category and its number join the names, for which there is room, unless the category is among them.
+fn join_names(names: &mut Vec<Usable>, category: Category, local: u64)
+    requires { vec_len names.old < vec_capacity names.old }
+    ensures names { names.new.items ≡ with_name category local names.old.items }
+    ensures capacity { vec_capacity names.new ≡ vec_capacity names.old }
+{
+    if !is_named(names.as_slice(), &category) {
+        names.push_reserved(Usable { category, local });
+    }
+}
+
+/// Whether the category is among the names.
+fn is_named(names: &[Usable], category: &Category) -> bool
+    ensures { result ≡ is_named_in category.now names.now }
+{
+    names.iter().any(|name| name.category == *category)
 }

@@ -11,7 +11,7 @@ pub fn put_u8(out: &mut Bytes, value: u8) -> Result<(), AllocError>
     ensures ok { OnOk result (out.new ≡ out.old ++ to_be_bytes w8 value) }
     ensures err { OnErr result (out.new ≡ out.old) }
 {
-    out.append(&value.to_be_bytes())
+    out.append(&[value])
 }
 
 /// Appends two bytes, big-endian. After `AllocError`, which says that memory ran out, nothing changed.
