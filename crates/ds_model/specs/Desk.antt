@@ -5,7 +5,7 @@ use Rattle.ds_label.specs.declared.category.PubKey.{PubKey}
 use Rattle.ds_label.specs.declared.category.Category.{Category}
 use Rattle.ds_label.specs.declared.rule.Rule.{Rule}
 use Rattle.ds_label.specs.declared.rule.Rule.TheVariants.{KeySpent, BadCert, StoreFull, TableFull}
-use Rattle.ds_label.specs.Lists.{any}
+use Rattle.std.specs.List.{list_any}
 use Rattle.ds_label.specs.Names.{same_category}
 use Rattle.ds_cert.specs.declared.delegation.Delegation.{Delegation}
 use Rattle.ds_cert.specs.declared.address.Address.{Address}
@@ -50,10 +50,10 @@ abbrev pub same_address : Address → Address → Bool
 same_address a b = same_key a.exporter b.exporter && (bytes_eq a.address b.address && ((a.from == b.from) && ((a.until == b.until) && bytes_eq a.signature b.signature)))
 
 abbrev pub is_kept : Delegation → List Delegation → Bool
-is_kept new kept = any (same_delegation new) kept
+is_kept new kept = list_any (same_delegation new) kept
 
 abbrev pub is_kept_address : Address → List Address → Bool
-is_kept_address new kept = any (same_address new) kept
+is_kept_address new kept = list_any (same_address new) kept
 
 abbrev pub with_delegation : Delegation → List Delegation → List Delegation
 with_delegation new kept = if is_kept new kept then kept else kept ++ new ∷ []

@@ -4,7 +4,7 @@ use Rattle.ds_label.specs.declared.category.PubKey.{PubKey}
 use Rattle.ds_label.specs.declared.category.Category.{Category}
 use Rattle.ds_label.specs.declared.rule.Rule.{Rule}
 use Rattle.ds_label.specs.declared.rule.Rule.TheVariants.{NoLane, NoAddress, PeerNotTrusted, LaneLapsed, WrongHost, WrongLabel, SenderNotTrusted, NotKnown}
-use Rattle.ds_label.specs.Lists.{any}
+use Rattle.std.specs.List.{list_any}
 use Rattle.ds_label.specs.Flow.{same_label}
 use Rattle.ds_label.specs.Names.{is_secrecy, by_name}
 use Rattle.ds_cert.specs.declared.delegation.Delegation.{Delegation}
@@ -71,7 +71,7 @@ receiver_rule s store rows now here lane m = first_rule (
 
 -- the spelled certificates with one more, unless it is there or there are 16
 abbrev pub with_attached : List ℕ → List (List ℕ) → List (List ℕ)
-with_attached bytes attached = if any (bytes_eq bytes) attached || nat_le attach_limit (length attached) then attached else attached ++ bytes ∷ []
+with_attached bytes attached = if list_any (bytes_eq bytes) attached || nat_le attach_limit (length attached) then attached else attached ++ bytes ∷ []
 
 abbrev pub attach_all : List (List ℕ) → List (List ℕ) → List (List ℕ)
 attach_all attached [] = attached

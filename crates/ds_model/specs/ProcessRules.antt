@@ -3,7 +3,7 @@
 use Rattle.std.specs.Prelude.{ℕ, Bool, ◌&&◌, ◌||◌, ◌-◌, ◌^◌, List, [], ◌∷◌, Option, Some, None, length, nat_lt, nat_le}
 use Rattle.ds_label.specs.declared.rule.Rule.{Rule}
 use Rattle.ds_label.specs.declared.rule.Rule.TheVariants.{NotFlow, GrantNotOwned, ClearNotHeld, NotFlowToBox, NoBox, NotFlowToTaker, LabelRefused, NotPublic, TooMany}
-use Rattle.ds_label.specs.Lists.{all}
+use Rattle.std.specs.List.{list_all}
 use Rattle.ds_label.specs.Flow.{Naming, has, flows, union}
 use Rattle.ds_model.specs.FirstRule.{unless, first_rule, each_secret}
 
@@ -13,11 +13,11 @@ member_limit = 64
 
 -- each member of the first is in the second
 abbrev pub within : {C : Type 0} → Naming C → List C → List C → Bool
-within naming small large = all (λ c. has naming c large) small
+within naming small large = list_all (λ c. has naming c large) small
 
 -- each member of the first is in the second or in the third
 abbrev pub within_either : {C : Type 0} → Naming C → List C → List C → List C → Bool
-within_either naming small one other = all (λ c. has naming c one || has naming c other) small
+within_either naming small one other = list_all (λ c. has naming c one || has naming c other) small
 
 -- A message may be sent where the label flows to the message's under the ownership, what it grants is owned, and the
 -- clearance that it grants is held or owned.

@@ -1,7 +1,7 @@
 -- The example's two runs meet the premises of the law.
 use Rattle.std.proofs.Common.{◌≡◌, ℕ, zero, suc, Bool, true, false, List, [], ◌∷◌, ◌&&◌, Some, None, slice_get, refl, sym, ◌∙◌, ap, inl, inr, arith}
 use Rattle.std.specs.Prelude.{Contains}
-use Rattle.ds_label.specs.Lists.{all}
+use Rattle.std.specs.List.{list_all}
 use Rattle.ds_cert.specs.declared.delegation.Delegation.{Delegation}
 use Rattle.ds_script.specs.declared.op.Op.{Op}
 use Rattle.ds_model.specs.Plan.{IsHost, IsLane, OfLane, wire, host_plan}
@@ -35,13 +35,13 @@ unfolding is_none
 none_in [] d e (k, lt, is) = grind arith
 none_in (x ∷ ds) d e m = grind arith
 
-one_of : {X : Type 0} (test : X → Bool) (xs : List X) (i : ℕ) (x : X) → all test xs ≡ true → slice_get xs i ≡ Some x → test x ≡ true
+one_of : {X : Type 0} (test : X → Bool) (xs : List X) (i : ℕ) (x : X) → list_all test xs ≡ true → slice_get xs i ≡ Some x → test x ≡ true
 one_of test [] i x a e = absurd (none_some x e)
 one_of test (y ∷ xs) zero x a e = ap test (sym (some_is y x e)) ∙ and_left _ _ a
 one_of test (y ∷ xs) (suc i) x a e = one_of test xs i x (and_right _ _ a) e
 
 unissued : World → Bool
-unissued w = all (λ x. is_none x.desk.issued) w.hosts
+unissued w = list_all (λ x. is_none x.desk.issued) w.hosts
 
 always : World → List Event → Bool
 always w [] = unissued w && true

@@ -8,7 +8,7 @@ use Rattle.std.specs.Str.{bytes_eq}
 use Rattle.std.proofs.lemmas.Slice.Eq.{bytes_eq-Decides}
 use Rattle.ds_label.specs.declared.category.PubKey.{PubKey}
 use Rattle.ds_label.specs.declared.category.Category.{Category}
-use Rattle.ds_label.specs.Lists.{all}
+use Rattle.std.specs.List.{list_all}
 use Rattle.ds_label.specs.Flow.{has, flows, same_label, union, placed, with_member}
 use Rattle.ds_label.specs.Names.{is_secrecy, same_kind, same_category, category_cmp, by_name}
 use Rattle.ds_model.specs.Keys.{same_key}
@@ -66,7 +66,7 @@ same_category_is a b h =
     λ i. record { creator = k i; kind = s i; number = n i }
 
 -- what holds of all members holds of one
-pub all_has : (c : Category) (test : Category → Bool) (members : List Category) → all test members ≡ true → has by_name c members ≡ true → test c ≡ true
+pub all_has : (c : Category) (test : Category → Bool) (members : List Category) → list_all test members ≡ true → has by_name c members ≡ true → test c ≡ true
 all_has c test [] a h = absurd (grind arith)
 all_has c test (x ∷ members) a h = go (λ r. all_has c test members (and_right _ _ a) r) (or_cases _ _ h)
   where
@@ -106,4 +106,4 @@ member_keeps c d (first ∷ rest) h = placed_keeps c d first rest (with_member b
 pub union_keeps : (c : Category) (first second : List Category) → has by_name c first ≡ true → has by_name c (union by_name first second) ≡ true
 unfolding union
 union_keeps c first [] h = h
-union_keeps c first (d ∷ members) h = member_keeps c d (union by_name first members) (union_keeps c first members h)
+union_keeps c first (d ∷ members) h = union_keeps c (with_member by_name d first) members (member_keeps c d first h)

@@ -3,7 +3,7 @@
 use Rattle.std.specs.Prelude.{◌≡◌, ℕ, Bool, true, false, ◌&&◌, ◌||◌, ◌==◌, List, Option, Some, None, slice_get}
 use Rattle.ds_label.specs.declared.category.PubKey.{PubKey}
 use Rattle.ds_label.specs.declared.category.Category.{Category}
-use Rattle.ds_label.specs.Lists.{any}
+use Rattle.std.specs.List.{list_any}
 use Rattle.ds_label.specs.Flow.{has}
 use Rattle.ds_label.specs.Names.{by_name}
 use Rattle.ds_model.specs.Keys.{same_key}
@@ -11,7 +11,7 @@ use Rattle.ds_model.specs.Plan.{HostPlan, Plan, Source, Link, OfLane, host_plan,
 use Rattle.ds_model.specs.World.{Process}
 
 abbrev pub is_in : List ℕ → ℕ → Bool
-is_in trusted h = any (λ g. g == h) trusted
+is_in trusted h = list_any (λ g. g == h) trusted
 
 -- a process, on a trusted host (t), with the category in its label or ownership
 abbrev pub high_proc : Category → (t : Bool) → Process → Bool
@@ -49,7 +49,7 @@ pub record HighInlet (c : Category) (trusted : List ℕ) (plan : Plan) (r i : �
 
 -- whether a key is that of a trusted host
 abbrev pub trusted_key : List ℕ → Plan → PubKey → Bool
-trusted_key trusted plan key = any (λ h. same_key (host_plan plan h).key key) trusted
+trusted_key trusted plan key = list_any (λ h. same_key (host_plan plan h).key key) trusted
 
 abbrev pub IsTrusted : List ℕ → Plan → PubKey → Type 0
 IsTrusted trusted plan key = trusted_key trusted plan key ≡ true
