@@ -1,6 +1,5 @@
 -- Each actor becomes what the answer alone says.
-use Rattle.std.proofs.Common.{◌≡◌, ℕ, List, [], ◌∷◌, Option, Some, None, slice_get, option_map, refl, sym}
-use Rattle.ds_model.specs.Plan.{lane_plan}
+use Rattle.std.proofs.Common.{◌≡◌, Option, Some, None, slice_get, option_map, refl}
 use Rattle.ds_model.specs.Asking.{Stay, Alone, Put, Admit, TakeFrom, Do, Judge}
 use Rattle.ds_model.specs.LaneWork.{Wait, Lift, Check}
 use Rattle.ds_model.specs.Connecting.{Quiet, Become, Number, JudgeOne, Hand}

@@ -1,5 +1,5 @@
 -- What the object that an actor asks answers, and what the actor becomes by that answer alone.
-use Rattle.std.specs.Prelude.{◌≡◌, ℕ, Bool, List, Option, Some, slice_get, option_map, if◌then◌else◌}
+use Rattle.std.specs.Prelude.{◌≡◌, ℕ, Bool, List, Option, slice_get, option_map, if◌then◌else◌}
 use Rattle.ds_label.specs.declared.category.Category.{Category}
 use Rattle.ds_label.specs.declared.rule.Rule.{Rule}
 use Rattle.ds_model.specs.Scheme.{Scheme}

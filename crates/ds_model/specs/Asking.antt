@@ -6,7 +6,7 @@ use Rattle.ds_label.specs.declared.category.Category.{Category}
 use Rattle.ds_label.specs.declared.category.PubKey.{PubKey}
 use Rattle.ds_label.specs.declared.rule.Rule.{Rule}
 use Rattle.ds_label.specs.declared.rule.Rule.TheVariants.{NoBox, NotKnown, NotHeld}
-use Rattle.ds_label.specs.Flow.{has, union, same_label}
+use Rattle.ds_label.specs.Flow.{has, with_member, union, same_label}
 use Rattle.ds_label.specs.Names.{by_name}
 use Rattle.ds_script.specs.declared.op.Op.{Op}
 use Rattle.ds_script.specs.declared.op.Op.TheVariants as ops
@@ -137,7 +137,7 @@ new_category plan p x kind = record { creator = plan.key; kind = kind; number = 
 -- a made category is owned and usable
 abbrev pub make : Process → Category → Option Rule → Ask
 make x c (Some rule) = refused rule x
-make x c None = Alone (noted (notes.NewCat c) (record x { own = union by_name x.own (c ∷ []); names = with_name c x.names; made = suc x.made }))
+make x c None = Alone (noted (notes.NewCat c) (record x { own = with_member by_name c x.own; names = with_name c x.names; made = suc x.made }))
 
 -- PUBLIC ACTS
 

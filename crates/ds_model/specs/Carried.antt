@@ -1,19 +1,18 @@
 -- A small world of two hosts: a message goes over a lane, by the canonical schedule, and is taken and printed. In place of
 -- signatures and spelling stands a toy: a hello is one byte, a frame is its number, and each frame that is read has the one
 -- message that there is.
-use Rattle.std.specs.Prelude.{◌≡◌, ℕ, zero, suc, ◌+◌, Bool, true, false, not, bytes_eq, List, [], ◌∷◌, ◌++◌, Option, Some, None, flat_map, length, map, option_map, slice_get, replicate, codes}
+use Rattle.std.specs.Prelude.{◌≡◌, ℕ, true, false, not, bytes_eq, List, [], ◌∷◌, ◌++◌, Option, Some, None, flat_map, length, map, option_map, slice_get, replicate, codes}
 use Rattle.ds_label.specs.declared.category.PubKey.{PubKey}
 use Rattle.ds_cert.specs.declared.address.Address.{Address}
 use Rattle.ds_cert.specs.declared.lane.LaneCert.{LaneCert}
 use Rattle.ds_msg.specs.declared.message.Message.{Message}
 use Rattle.ds_script.specs.declared.op.Op.{Op}
 use Rattle.ds_script.specs.declared.op.Op.TheVariants as ops
-use Rattle.ds_script.specs.declared.note.Note.{Note}
 use Rattle.ds_script.specs.declared.note.Note.TheVariants as notes
 use Rattle.ds_model.specs.Scheme.{Scheme, Item, Hello, Framed}
-use Rattle.ds_model.specs.Plan.{HostPlan, LanePlan, Plan, Link, OfLane, no_signing}
+use Rattle.ds_model.specs.Plan.{HostPlan, Plan, OfLane, no_signing}
 use Rattle.ds_model.specs.Desk.{Desk}
-use Rattle.ds_model.specs.World.{Process, Waiting, LaneLine, QueuedLine, FramedLine, Conn, ConnLine, FrameLine, PassLine, Host, World}
+use Rattle.ds_model.specs.World.{Process, LaneLine, QueuedLine, FramedLine, Conn, FrameLine, PassLine, Host, World}
 use Rattle.ds_model.specs.Step.{Event, Step, Frame, Arrive, Accept, Deliver, step, run}
 use Rattle.ds_model.specs.Schedule.{Test, canonical}
 use Rattle.ds_model.specs.SmallWorlds.{empty_scheme, only_key, other_key, new_conn, notes_of}

@@ -3,7 +3,7 @@ use Rattle.std.proofs.Common.{◌≡◌, ℕ, Bool, true, false, List, [], ◌�
 use Rattle.std.proofs.lemmas.List.Quantifiers.{position-Some}
 use Rattle.ds_label.specs.declared.category.Category.{Category}
 use Rattle.ds_label.specs.declared.rule.Rule.{Rule}
-use Rattle.ds_label.specs.Flow.{has, flows, same_label, union}
+use Rattle.ds_label.specs.Flow.{has, flows, same_label, with_member}
 use Rattle.ds_label.specs.Names.{is_secrecy, by_name}
 use Rattle.ds_msg.specs.declared.message.Message.{Message}
 use Rattle.ds_script.specs.declared.op.Op.{Op}
@@ -18,7 +18,7 @@ use Rattle.ds_model.specs.World.{Process}
 use Rattle.ds_model.specs.Asking.{Ask, Stay, Alone, Put, Admit, TakeFrom, Do, Judge, usable_rule, box_of, label_of, Target, Not, Into, target, judge_box, send_rule, send_here, send_away, send, message_of, take_rule, take_from, relabel, new_category, make, publish, ask_outer, ask_inner, lane_of, queue_at, ask_hand, ask}
 use Rattle.ds_label.specs.declared.rule.Rule.TheVariants.{NotFlowToBox}
 use Rattle.ds_model.proofs.Places.{cond_case}
-use Rattle.ds_noninterference.proofs.Flow.{and_left, and_right, or_cases, or_left, or_right, flows_carries, union_keeps, same_key_is}
+use Rattle.ds_noninterference.proofs.Flow.{and_left, and_right, or_cases, or_left, or_right, flows_carries, member_keeps, same_key_is}
 
 -- High stays high, and the hand is as it was or empty.
 pub record Follows (x y : Process) : Type 0 where
@@ -91,16 +91,16 @@ relabel_facts : (plan : HostPlan) (p : ℕ) (x : Process) (label : List Category
 relabel_facts plan p x label (Some o) f = same_place x _
 relabel_facts plan p x label None f = record { stays = λ c s h. relabel_stays x label c (f refl) s h; hand = inl refl }
 
-own_more : (c : Category) (l o n : List Category) → (has by_name c l || has by_name c o) ≡ true → (has by_name c l || has by_name c (union by_name o n)) ≡ true
-own_more c l o n h = go (or_cases _ _ h)
+own_more : (c d : Category) (l o : List Category) → (has by_name c l || has by_name c o) ≡ true → (has by_name c l || has by_name c (with_member by_name d o)) ≡ true
+own_more c d l o h = go (or_cases _ _ h)
   where
-    go : (has by_name c l ≡ true) ⊎ (has by_name c o ≡ true) → (has by_name c l || has by_name c (union by_name o n)) ≡ true
+    go : (has by_name c l ≡ true) ⊎ (has by_name c o ≡ true) → (has by_name c l || has by_name c (with_member by_name d o)) ≡ true
     go (inl e) = or_left _ _ e
-    go (inr e) = or_right _ _ (union_keeps c o n e)
+    go (inr e) = or_right _ _ (member_keeps c d o e)
 
 make_facts : (plan : HostPlan) (p : ℕ) (x : Process) (c : Category) (o : Option Rule) → AskFacts plan p x (make x c o)
 make_facts plan p x c (Some o) = same_place x _
-make_facts plan p x c None = record { stays = λ d s h. own_more d x.label x.own (c ∷ []) h; hand = inl refl }
+make_facts plan p x c None = record { stays = λ d s h. own_more d c x.label x.own h; hand = inl refl }
 
 outer_facts : (plan : HostPlan) (p : ℕ) (x : Process) (o : Option Op) → AskFacts plan p x (ask_outer plan p x o)
 outer_facts plan p x None = tt

@@ -1,5 +1,5 @@
 -- Two lists after a change at a place of one of them, or of both.
-use Rattle.std.proofs.Common.{◌≡◌, ◌≢◌, ℕ, List, Option, slice_get, option_map, sym, subst, subst₂}
+use Rattle.std.proofs.Common.{◌≢◌, ℕ, List, Option, slice_get, option_map, sym, subst, subst₂}
 use Rattle.ds_model.specs.Lists.{at, Everywhere}
 use Rattle.ds_model.proofs.Places.{at_here, at_other, at_each}
 
