@@ -33,6 +33,7 @@ proc_answer s plan x (Alone next) = Nothing
 proc_answer s plan x (Put b m next) = Nothing
 proc_answer s plan x (Admit l m next) = Nothing
 
+-- the process by what it asked and the answer; another answer can't come
 abbrev pub proc_told : Ask → Answer → Process → Process
 proc_told (Alone next) answer y = next
 proc_told (Put b m next) answer y = next
@@ -44,11 +45,13 @@ proc_told _ _ y = y
 
 -- a lane's worker
 
+-- what a lane's worker is answered
 abbrev pub lane_answer : Host → (lane : ℕ) → LaneAsk → Answer
 lane_answer x l Wait = Nothing
 lane_answer x l Lift = Front (front_of (slice_get x.queues l))
 lane_answer x l Check = Read x.desk
 
+-- the worker by what it asked and the answer
 abbrev pub lane_told : Scheme → HostPlan → (lane : ℕ) → LaneAsk → Answer → Worker → Worker
 lane_told s plan l Lift (Front ms) e = told_lifted ms e
 lane_told s plan l Check (Read d) e = told_checked s (lane_plan plan l) d e
@@ -56,6 +59,7 @@ lane_told s plan l _ _ e = e
 
 -- a connection
 
+-- what a connection is answered
 abbrev pub conn_answer : Scheme → HostPlan → Host → ConnAsk → Answer
 conn_answer s plan x (Number i n fresh stale) = IsFresh (fresh_in n (slice_get x.inlets i))
 conn_answer s plan x (JudgeOne lane m rest) = Ruled (judge_delivery s plan x.desk lane m)
@@ -63,6 +67,7 @@ conn_answer s plan x Quiet = Nothing
 conn_answer s plan x (Become next) = Nothing
 conn_answer s plan x (Hand b m next) = Nothing
 
+-- the connection by what it asked and the answer
 abbrev pub conn_told : ConnAsk → Answer → Conn → Conn
 conn_told (Become next) answer k = next
 conn_told (Hand b m next) answer k = next
@@ -72,11 +77,14 @@ conn_told _ _ k = k
 
 -- each actor becomes what it is told
 
+-- a process becomes what it is told
 abbrev pub ProcessesTold : Type 0
 ProcessesTold = (s : Scheme) (plan : HostPlan) (x : Host) (p : ℕ) (a : Ask) → slice_get (perform s plan x p a).procs p ≡ option_map (proc_told a (proc_answer s plan x a)) (slice_get x.procs p)
 
+-- so does a lane's worker
 abbrev pub WorkersTold : Type 0
 WorkersTold = (s : Scheme) (plan : HostPlan) (x : Host) (l : ℕ) (a : LaneAsk) → slice_get (perform_lane s plan x l a).workers l ≡ option_map (lane_told s plan l a (lane_answer x l a)) (slice_get x.workers l)
 
+-- and a connection
 abbrev pub ConnectionsTold : Type 0
 ConnectionsTold = (s : Scheme) (plan : HostPlan) (x : Host) (k : Conn) (a : ConnAsk) → (perform_conn s plan x k a).conn ≡ conn_told a (conn_answer s plan x a) k

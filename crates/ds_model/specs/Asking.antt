@@ -51,6 +51,7 @@ refused rule x = Alone (noted (notes.Refused rule) x)
 abbrev pub usable : HostPlan → Process → Category → Bool
 usable plan x c = is_known plan.key x.names c
 
+-- the first category of a message's label, ownership and clearance that the process may not use
 abbrev pub usable_rule : HostPlan → Process → (label own clear : List Category) → Option Rule
 usable_rule plan x label own clear = known_rule plan.key x.names label own clear
 
@@ -60,9 +61,11 @@ with_name c names = if has by_name c names then names else names ++ c ∷ []
 
 -- MAILBOXES OF THE OWN HOST
 
+-- the place of the mailbox with this slot
 abbrev pub box_of : HostPlan → (slot : ℕ) → Option ℕ
 box_of plan slot = position (λ b. b.slot == slot) plan.boxes
 
+-- the label of a mailbox that may not be there
 abbrev pub label_of : HostPlan → Option ℕ → Option (List Category)
 label_of plan None = None
 label_of plan (Some b) = Some (box_plan plan b).label
@@ -72,16 +75,19 @@ pub data Target : Type 0 where
   Not : Rule → Target
   Into : (box : ℕ) → Target
 
+-- the mailbox, unless a rule fails
 abbrev pub target : Option ℕ → Option Rule → Target
 target place (Some rule) = Not rule
 target None None = Not NoBox
 target (Some b) None = Into b
 
+-- the mailbox rule of the mailbox with this slot, for a message with this label
 abbrev pub judge_box : HostPlan → (slot : ℕ) → (label : List Category) → Target
 judge_box plan slot label = target (box_of plan slot) (mailbox_rule by_name (label_of plan (box_of plan slot)) label)
 
 -- SENDS
 
+-- the message of a send: its receiver is the key of the host with that number, and it carries no certificate yet
 abbrev pub message_of : HostPlan → Process → (host slot reg : ℕ) → (label own clear : List Category) → Message
 message_of plan x host slot reg label own clear = record { to = key_of plan.keys host; slot = slot; label = label; own = own; clear = clear; certs = []; payload = register reg x.course }
 
@@ -92,18 +98,22 @@ send_rule plan x m = first_rule (
     ∷ may_send by_name x.label x.own x.clear m.label m.own m.clear
     ∷ [])
 
+-- what a mailbox keeps of a message from this exporter
 abbrev pub mail_of : PubKey → Message → Mail Category
 mail_of from m = record { from = from; label = m.label; own = m.own; clear = m.clear; payload = m.payload }
 
+-- a send to the own host: the process's rules, then the mailbox's; the sender notes `sent` and moves on, whatever the room
 abbrev pub send_here : HostPlan → Process → Message → Option Rule → Target → Ask
 send_here plan x m (Some rule) target = refused rule x
 send_here plan x m None (Not rule) = refused rule x
 send_here plan x m None (Into b) = Put b (mail_of plan.key m) (noted notes.Sent x)
 
+-- a send to another host: the process's rules, then the desk judges
 abbrev pub send_away : Process → Message → Option Rule → Ask
 send_away x m (Some rule) = refused rule x
 send_away x m None = Judge m
 
+-- either of these, by the receiver's key
 abbrev pub send : HostPlan → Process → Message → Ask
 send plan x m =
     if same_key m.to plan.key
@@ -120,6 +130,7 @@ take_rule plan p x (Some b) = first_rule (
     ∷ may_take by_name (box_plan plan b).label x.label x.own
     ∷ [])
 
+-- a refusal, or the take
 abbrev pub take_from : Process → (reg slot : ℕ) → Option ℕ → Option Rule → Ask
 take_from x reg slot place (Some rule) = refused rule x
 take_from x reg slot None None = Stay
@@ -127,10 +138,12 @@ take_from x reg slot (Some b) None = TakeFrom b reg slot
 
 -- LABELS AND CATEGORIES
 
+-- a refusal, or the new label
 abbrev pub relabel : Process → List Category → Option Rule → Ask
 relabel x label (Some rule) = refused rule x
 relabel x label None = Alone (noted (notes.SetLabel label) (record x { label = label }))
 
+-- the category that the process makes next: its number is made of the process's number and of how many it made
 abbrev pub new_category : HostPlan → (proc : ℕ) → Process → Kind → Category
 new_category plan p x kind = record { creator = plan.key; kind = kind; number = p * 2 ^ 32 + x.made }
 
@@ -141,9 +154,11 @@ make x c None = Alone (noted (notes.NewCat c) (record x { own = with_member by_n
 
 -- PUBLIC ACTS
 
+-- whether the process may act in public
 abbrev pub publish_rule : Process → Option Rule
 publish_rule x = may_publish by_name x.label x.own
 
+-- a refusal, or the act
 abbrev pub publish : Process → Act → (reg host : ℕ) → Option Rule → Ask
 publish x act reg host (Some rule) = refused rule x
 publish x act reg host None = Do act reg host
@@ -167,6 +182,7 @@ abbrev pub ask_inner : HostPlan → (proc : ℕ) → Process → Option Course �
 ask_inner plan p x (Some course) = Alone (record x { course = course })
 ask_inner plan p x None = ask_outer plan p x (slice_get x.script x.course.place)
 
+-- the place of the lane to this exporter with exactly this label
 abbrev pub lane_of : HostPlan → PubKey → (label : List Category) → Option ℕ
 lane_of plan to label = position (λ l. same_key l.cert.receiver to && same_label by_name l.cert.label label) plan.lanes
 
@@ -175,6 +191,7 @@ abbrev pub queue_at : Process → Message → Option ℕ → Ask
 queue_at x m None = Stay
 queue_at x m (Some l) = Admit l m (noted notes.Sent (record x { hand = None }))
 
+-- with a judged message in hand it is queued; else the operation at the place is done
 abbrev pub ask_hand : HostPlan → (proc : ℕ) → Process → Option Message → Ask
 ask_hand plan p x (Some m) = queue_at x m (lane_of plan m.to m.label)
 ask_hand plan p x None = ask_inner plan p x (inner x.script x.course)
@@ -185,6 +202,7 @@ ask plan p x = ask_hand plan p x x.hand
 
 -- WHAT IT BECOMES BY THE ANSWER
 
+-- a taken message's ownership and clearance join the process's, both or neither
 abbrev pub granted : Mail Category → Process → Process
 granted m x =
     if can_grant by_name x.own x.clear m.own m.clear
@@ -198,21 +216,25 @@ told_taken reg slot (Some m) x = noted_with (notes.Took slot (length m.payload) 
 
 -- the end of a public act, by its kind and the desk's reply; a reply of another act can't come
 
+-- a delegation: the certificate's bytes go into the register
 abbrev pub delegated_course : (reg host : ℕ) → Category → Reply → Course → Course
 delegated_course reg host c (Made bytes) course = finished (Some (notes.Delegated c host)) (Some (reg, bytes)) course
 delegated_course reg host c (Refuse rule) course = finished (Some (notes.Refused rule)) None course
 delegated_course reg host c _ course = course
 
+-- an import
 abbrev pub imported_course : Reply → Course → Course
 imported_course Done course = finished (Some notes.Imported) None course
 imported_course (Refuse rule) course = finished (Some (notes.Refused rule)) None course
 imported_course _ course = course
 
+-- a mapping: the note has the category's number on this host
 abbrev pub mapped_course : Category → Reply → Course → Course
 mapped_course c (Local number) course = finished (Some (notes.Mapped c number)) None course
 mapped_course c (Refuse rule) course = finished (Some (notes.Refused rule)) None course
 mapped_course c _ course = course
 
+-- the course after an act of either kind
 abbrev pub act_course : (reg host : ℕ) → Act → Reply → Course → Course
 act_course reg host (Delegating c to from until) reply course = delegated_course reg host c reply course
 act_course reg host (Importing bytes) reply course = imported_course reply course
@@ -223,6 +245,7 @@ abbrev pub act_names : Act → Reply → List Category → List Category
 act_names (Mapping c) (Local number) names = with_name c names
 act_names _ _ names = names
 
+-- the process after its public act
 abbrev pub told_act : (reg host : ℕ) → Act → Reply → Process → Process
 told_act reg host act reply x = record x { course = act_course reg host act reply x.course; names = act_names act reply x.names }
 

@@ -32,6 +32,7 @@ hello_of None = None
 hello_of (Some (Hello lane)) = Some lane
 hello_of (Some (Framed number messages)) = None
 
+-- the lane certificate that a host with this plan read of the arrived bytes
 abbrev pub peer : Scheme → HostPlan → (arrived : List ℕ) → Option LaneCert
 peer s plan arrived = hello_of (slice_get (s.items plan.key plan.inlets arrived) 0)
 
@@ -41,16 +42,20 @@ inlet_of plan lane = position (λ i. same_key i.exporter lane.exporter && (i.lan
 
 -- ACCEPT: the next hello or frame
 
+-- a fresh frame fills the hand
 abbrev pub fresh_frame : Conn → ℕ → List Message → Conn
 fresh_frame k number messages = record k { taken = suc k.taken; hand = messages; lines = k.lines ++ FrameLine number (length messages) ∷ [] }
 
+-- a stale frame is dropped with all its messages
 abbrev pub stale_frame : Conn → ℕ → Conn
 stale_frame k number = record k { taken = suc k.taken; lines = k.lines ++ StaleLine number ∷ [] }
 
+-- a frame whose inlet isn't declared can't come, since its hello has failed
 abbrev pub take_frame : Conn → ℕ → List Message → Option ℕ → ConnAsk
 take_frame k number messages None = Quiet
 take_frame k number messages (Some i) = Number i number (fresh_frame k number messages) (stale_frame k number)
 
+-- nor can one before a hello
 abbrev pub frame_from : HostPlan → Conn → ℕ → List Message → Option LaneCert → ConnAsk
 frame_from plan k number messages None = Quiet
 frame_from plan k number messages (Some lane) = take_frame k number messages (inlet_of plan lane)
@@ -60,6 +65,7 @@ abbrev pub fail : Conn → Option Failure → ConnAsk
 fail k None = Quiet
 fail k (Some failure) = Become (record k { failed = Some failure })
 
+-- the next item: none, and perhaps a failure; a hello; or a frame
 abbrev pub accept_item : Scheme → HostPlan → Conn → List ℕ → Option Item → ConnAsk
 accept_item s plan k arrived None = fail k (s.ending plan.key plan.inlets arrived)
 accept_item s plan k arrived (Some (Hello lane)) = Become (record k { taken = suc k.taken })
@@ -76,22 +82,27 @@ accept s plan k arrived = if plan.silent then Quiet else accept_free s plan k ar
 
 -- DELIVER: a message of the hand is judged, and then put
 
+-- a mailbox that isn't there can't come: the message was judged for it
 abbrev pub put_passed : Conn → Mail Category → Option ℕ → ConnAsk
 put_passed k m None = Quiet
 put_passed k m (Some b) = Hand b m (record k { passed = None })
 
+-- a passed message is put; with none, the first message of the hand is judged
 abbrev pub deliver_to : HostPlan → Conn → LaneCert → List Message → Option Message → ConnAsk
 deliver_to plan k lane hand (Some m) = put_passed k (mail_of lane.exporter m) (box_of plan m.slot)
 deliver_to plan k lane [] None = Quiet
 deliver_to plan k lane (m ∷ rest) None = JudgeOne lane m rest
 
+-- before a hello there is nothing to deliver
 abbrev pub deliver_from : HostPlan → Conn → Option LaneCert → ConnAsk
 deliver_from plan k None = Quiet
 deliver_from plan k (Some lane) = deliver_to plan k lane k.hand k.passed
 
+-- nobody delivers for a silent host
 abbrev pub deliver : Scheme → HostPlan → Conn → (arrived : List ℕ) → ConnAsk
 deliver s plan k arrived = if plan.silent then Quiet else deliver_from plan k (peer s plan arrived)
 
+-- the rule of a judgement for a mailbox, if one fails
 abbrev pub target_rule : Target → Option Rule
 target_rule (Not rule) = Some rule
 target_rule (Into b) = None

@@ -22,9 +22,11 @@ use Rattle.ds_model.specs.Plan.{HostPlan}
 abbrev pub store_limit : ℕ
 store_limit = 256
 
+-- most address certificates that it keeps
 abbrev pub address_limit : ℕ
 address_limit = 64
 
+-- `rows` are the foreign categories of the table, `issued` all delegations that the host signed, `leaf` the next one of its key
 pub record Desk : Type 0 where
   pub moment : ℕ
   pub rows : List Category
@@ -33,6 +35,7 @@ pub record Desk : Type 0 where
   pub issued : List Delegation
   pub leaf : ℕ
 
+-- a tick; a delegation that was made; a certificate that was imported; a category that was mapped; a judgement that read the desk; a refused act
 pub data DeskEntry : Type 0 where
   Ticked : (moment : ℕ) → DeskEntry
   Delegated : Delegation → DeskEntry
@@ -43,21 +46,27 @@ pub data DeskEntry : Type 0 where
 
 -- lists of certificates have no doubles
 
+-- equal in all fields
 abbrev pub same_delegation : Delegation → Delegation → Bool
 same_delegation a b = same_category a.category b.category && (same_key a.to b.to && ((a.from == b.from) && ((a.until == b.until) && (same_key a.by b.by && bytes_eq a.signature b.signature))))
 
+-- equal in all fields
 abbrev pub same_address : Address → Address → Bool
 same_address a b = same_key a.exporter b.exporter && (bytes_eq a.address b.address && ((a.from == b.from) && ((a.until == b.until) && bytes_eq a.signature b.signature)))
 
+-- whether a list has the delegation
 abbrev pub is_kept : Delegation → List Delegation → Bool
 is_kept new kept = list_any (same_delegation new) kept
 
+-- whether a list has the address certificate
 abbrev pub is_kept_address : Address → List Address → Bool
 is_kept_address new kept = list_any (same_address new) kept
 
+-- the list with the delegation, unless it is there
 abbrev pub with_delegation : Delegation → List Delegation → List Delegation
 with_delegation new kept = if is_kept new kept then kept else kept ++ new ∷ []
 
+-- the list with the address certificate, unless it is there
 abbrev pub with_address : Address → List Address → List Address
 with_address new kept = if is_kept_address new kept then kept else kept ++ new ∷ []
 
@@ -82,14 +91,17 @@ abbrev pub import_rule : Desk → Cert → Option Rule
 import_rule d (certs.Delegation new) = unless (is_kept new d.store || nat_lt (length d.store) store_limit) StoreFull
 import_rule d (certs.Address new) = unless (is_kept_address new d.addresses || nat_lt (length d.addresses) address_limit) StoreFull
 
+-- whether a certificate of either kind is good
 abbrev pub is_good : Scheme → Cert → Bool
 is_good s (certs.Delegation d) = s.good d
 is_good s (certs.Address a) = s.good_address a
 
+-- the entry, unless a rule fails
 abbrev pub entry_unless : Option Rule → DeskEntry → DeskEntry
 entry_unless None entry = entry
 entry_unless (Some rule) entry = Denied rule
 
+-- the entry of an import, by what its bytes spell
 abbrev pub import_entry : Scheme → Desk → Option Cert → DeskEntry
 import_entry s d None = Denied BadCert
 import_entry s d (Some new) = entry_unless (first_rule (unless (is_good s new) BadCert ∷ import_rule d new ∷ [])) (Imported new)
@@ -119,6 +131,7 @@ reply_of s plan d (Imported new) = Done
 reply_of s plan d (Ticked t) = Done
 reply_of s plan d Looked = Done
 
+-- no rule fails
 abbrev pub is_none : Option Rule → Bool
 is_none None = true
 is_none (Some rule) = false

@@ -22,6 +22,7 @@ use Rattle.ds_model.specs.Scheme.{Scheme}
 abbrev pub attach_limit : ℕ
 attach_limit = 16
 
+-- whether there is one
 abbrev pub is_found : Option Address → Bool
 is_found None = false
 is_found (Some a) = true
@@ -38,6 +39,7 @@ sender_rule s addresses store now to label = first_rule (
     ∷ each_secret by_name (λ c. s.holds store now c to) PeerNotTrusted label
     ∷ [])
 
+-- there is a lane
 abbrev pub lane_rule : Option ℕ → Option Rule
 lane_rule None = Some NoLane
 lane_rule (Some lane) = None
@@ -52,6 +54,7 @@ with_read (Some (certs.Delegation d)) more = d ∷ more
 with_read (Some (certs.Address a)) more = more
 with_read None more = more
 
+-- those of a list of spellings
 abbrev pub carried : Scheme → List (List ℕ) → List Delegation
 carried s [] = []
 carried s (bytes ∷ more) = with_read (s.read_cert bytes) (carried s more)
@@ -73,6 +76,7 @@ receiver_rule s store rows now here lane m = first_rule (
 abbrev pub with_attached : List ℕ → List (List ℕ) → List (List ℕ)
 with_attached bytes attached = if list_any (bytes_eq bytes) attached || nat_le attach_limit (length attached) then attached else attached ++ bytes ∷ []
 
+-- the attached certificates with more, one after another
 abbrev pub attach_all : List (List ℕ) → List (List ℕ) → List (List ℕ)
 attach_all attached [] = attached
 attach_all attached (bytes ∷ more) = attach_all (with_attached bytes attached) more

@@ -8,6 +8,7 @@ abbrev pub unless : Bool → Rule → Option Rule
 unless true rule = None
 unless false rule = Some rule
 
+-- the first rule, or where there is none the second
 abbrev pub or_else : Option Rule → Option Rule → Option Rule
 or_else None second = second
 or_else (Some rule) second = Some rule

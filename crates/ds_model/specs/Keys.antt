@@ -2,6 +2,7 @@
 use Rattle.std.specs.Prelude.{ℕ, Bool, List, [], bytes_eq, get_or}
 use Rattle.ds_label.specs.declared.category.PubKey.{PubKey}
 
+-- equal in all bytes
 abbrev pub same_key : PubKey → PubKey → Bool
 same_key a b = bytes_eq a.0 b.0
 

@@ -7,6 +7,7 @@ use Rattle.ds_model.specs.Stepping.{stepping}
 abbrev pub frame_limit : ℕ
 frame_limit = 16
 
+-- a message that was queued; one that found the list full; a lift of so many
 pub data LaneEntry (M : Type 0) : Type 0 where
   Queued : M → LaneEntry M
   QueueFull : M → LaneEntry M
@@ -28,6 +29,7 @@ lane_needs room (Lifted count) waiting = nat_lt 0 count && (count == min frame_l
 abbrev pub lane_step : {M : Type 0} → (room : ℕ) → List M → LaneEntry M → Option (List M)
 lane_step room = stepping (lane_needs room) lane_after
 
+-- the entry that a message makes, by the room
 abbrev pub admit_entry : {M : Type 0} → ℕ → M → List M → LaneEntry M
 admit_entry room m waiting = if nat_lt (length waiting) room then Queued m else QueueFull m
 

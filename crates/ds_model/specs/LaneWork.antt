@@ -19,9 +19,11 @@ abbrev pub lane_ask_hand : Scheme → LanePlan → Worker → List Waiting → L
 lane_ask_hand s plan e [] = if s.has_leaf plan.signing e.leaf then Lift else Wait
 lane_ask_hand s plan e (m ∷ rest) = Check
 
+-- what the worker asks, by its hand
 abbrev pub lane_ask : Scheme → LanePlan → Worker → LaneAsk
 lane_ask s plan e = lane_ask_hand s plan e e.hand
 
+-- the lifted messages are in hand
 abbrev pub told_lifted : List Waiting → Worker → Worker
 told_lifted ms e = record e { hand = ms }
 
@@ -29,6 +31,7 @@ told_lifted ms e = record e { hand = ms }
 abbrev pub frame_rule : Scheme → Desk → Waiting → Option Rule
 frame_rule s d w = sender_rule s d.addresses d.store d.moment w.message.to w.message.label
 
+-- no rule fails
 abbrev pub passes : Option Rule → Bool
 passes None = true
 passes (Some rule) = false
@@ -42,20 +45,24 @@ abbrev pub with_frame : Scheme → LanePlan → Worker → List Waiting → Work
 with_frame s plan e [] = record e { hand = [] }
 with_frame s plan e (m ∷ rest) = record { hand = []; leaf = suc e.leaf; stream = e.stream ++ s.frame plan.signing e.leaf (map (λ w. w.message) (m ∷ rest)) }
 
+-- the worker after the desk judged its hand
 abbrev pub told_checked : Scheme → LanePlan → Desk → Worker → Worker
 told_checked s plan d e = with_frame s plan e (still_good s d e.hand)
 
 -- WHAT IS PRINTED
 
+-- a line for a sender's entry, none for a lift
 abbrev pub admitted_line : LaneEntry Waiting → List LaneLine
 admitted_line (Queued m) = QueuedLine m ∷ []
 admitted_line (QueueFull m) = FullLine m ∷ []
 admitted_line (Lifted count) = []
 
+-- a line for a message that is dropped, with its rule
 abbrev pub dropped_line : Waiting → Option Rule → List LaneLine
 dropped_line w None = []
 dropped_line w (Some rule) = DroppedLine rule w ∷ []
 
+-- a line for a frame, with its number and how many messages it has
 abbrev pub framed_line : ℕ → List Waiting → List LaneLine
 framed_line leaf [] = []
 framed_line leaf (w ∷ rest) = FramedLine leaf (length (w ∷ rest)) ∷ []

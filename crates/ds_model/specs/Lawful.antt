@@ -28,6 +28,7 @@ module _ (s : Scheme) (plan : Plan) (start : World) where
   abbrev pub after : List Event → World
   after before = run s plan start before
 
+  -- an event that is a copy means the injection of its bytes
   abbrev pub Is : List Event → Event → Event → Type 0
   Is before e meant = resolve plan (after before) e ≡ meant
 
@@ -160,12 +161,15 @@ module _ (s : Scheme) (plan : Plan) (start : World) where
 
   -- of each event of the run that puts a message into a mailbox
 
+  -- of the own host's messages
   abbrev pub LawfulHere : List Event → Type 0
   LawfulHere events = (before : List Event) (e : Event) (later : List Event) → events ≡ before ++ e ∷ later → (h p b : ℕ) (mail : Mail Category) → PutsHere h p b mail before e → RulesHere h p b mail before
 
+  -- of messages from other hosts
   abbrev pub LawfulFrom : List Event → Type 0
   LawfulFrom events = (before : List Event) (e : Event) (later : List Event) → events ≡ before ++ e ∷ later → (k : ℕ) (lane : LaneCert) (m : Message) → PutsFrom k lane m before e → RulesFrom k lane m before
 
+  -- of all messages
   pub record Lawful (events : List Event) : Type 0 where
     pub here : LawfulHere events
     pub from : LawfulFrom events

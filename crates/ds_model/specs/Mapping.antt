@@ -13,6 +13,7 @@ use Rattle.ds_model.specs.Keys.{same_key}
 abbrev pub row_limit : ℕ
 row_limit = 1024
 
+-- made by this host, with a number below 2^62
 abbrev pub is_home : PubKey → Category → Bool
 is_home here c = same_key c.creator here && nat_lt c.number (2 ^ 62)
 
@@ -24,6 +25,7 @@ is_known here rows c = is_home here c || has by_name c rows
 abbrev pub with_row : PubKey → Category → List Category → List Category
 with_row here c rows = if is_known here rows c then rows else rows ++ c ∷ []
 
+-- the parity of a category's number
 abbrev pub kind_number : Kind → ℕ
 kind_number Secrecy = 0
 kind_number Integrity = 1
@@ -41,9 +43,11 @@ number_of here rows c = if is_home here c then 2 * c.number + kind_number c.kind
 abbrev pub to_number : PubKey → List Category → Category → Option ℕ
 to_number here rows c = if is_known here rows c then Some (number_of here rows c) else None
 
+-- the kind that a number's parity says
 abbrev pub kind_of : ℕ → Kind
 kind_of number = if number % 2 == 0 then Secrecy else Integrity
 
+-- the category, where its kind is the number's
 abbrev pub if_kind : ℕ → Option Category → Option Category
 if_kind number None = None
 if_kind number (Some c) = if same_kind c.kind (kind_of number) then Some c else None

@@ -42,43 +42,56 @@ pub record Wire : Type 0 where
   pub host : ℕ
   pub source : Source
 
+-- hosts and connections, by their places
 pub record Plan : Type 0 where
   pub hosts : List HostPlan
   pub wires : List Wire
 
+-- the keys, hosts and things that stand where the plan has none
 abbrev pub no_signing : SigningKey
 no_signing = record { tree = 0; chains = 0; seed = []; identifier = [] }
 
+-- no host: it is silent and has nothing
 abbrev pub no_host : HostPlan
 no_host = record { key = no_key; silent = true; signing = no_signing; keys = []; procs = 0; boxes = []; lanes = []; inlets = [] }
 
+-- no mailbox
 abbrev pub no_box : BoxPlan
 no_box = record { slot = 0; owner = 0; label = []; room = 0 }
 
+-- no lane's certificate
 abbrev pub no_cert : LaneCert
 no_cert = record { exporter = no_key; lane = 0; receiver = no_key; label = []; key = no_key; from = 0; until = 0; signature = [] }
 
+-- no lane
 abbrev pub no_lane : LanePlan
 no_lane = record { cert = no_cert; signing = no_signing; room = 0 }
 
+-- no inlet
 abbrev pub no_inlet : InletName
 no_inlet = record { exporter = no_key; lane = 0 }
 
+-- no connection
 abbrev pub no_wire : Wire
 no_wire = record { host = 0; source = Link }
 
+-- host h
 abbrev pub host_plan : Plan → ℕ → HostPlan
 host_plan plan h = get_or plan.hosts h no_host
 
+-- connection k
 abbrev pub wire : Plan → ℕ → Wire
 wire plan k = get_or plan.wires k no_wire
 
+-- mailbox b of a host
 abbrev pub box_plan : HostPlan → ℕ → BoxPlan
 box_plan plan b = get_or plan.boxes b no_box
 
+-- lane l of a host
 abbrev pub lane_plan : HostPlan → ℕ → LanePlan
 lane_plan plan l = get_or plan.lanes l no_lane
 
+-- inlet i of a host
 abbrev pub inlet_name : HostPlan → ℕ → InletName
 inlet_name plan i = get_or plan.inlets i no_inlet
 
@@ -86,5 +99,6 @@ inlet_name plan i = get_or plan.inlets i no_inlet
 abbrev pub IsHost : Plan → ℕ → Type 0
 IsHost plan h = h < length plan.hosts
 
+-- this lane of it
 abbrev pub IsLane : Plan → ℕ → ℕ → Type 0
 IsLane plan h l = l < length (host_plan plan h).lanes

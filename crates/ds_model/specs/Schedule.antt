@@ -25,6 +25,7 @@ pub record Schedule : Type 0 where
   pub events : List Event
   pub left : ℕ
 
+-- with an event that changed something, unless no more may come
 abbrev pub kept : Scheme → Plan → Event → Schedule → ℕ → Schedule
 kept s plan e sch zero = sch
 kept s plan e sch (suc left) = record { world = step s plan sch.world e; events = sch.events ++ e ∷ []; left = left }
@@ -33,6 +34,7 @@ kept s plan e sch (suc left) = record { world = step s plan sch.world e; events 
 abbrev pub tried : Test → Scheme → Plan → Event → Schedule → Schedule
 tried changes s plan e sch = if changes sch.world e then kept s plan e sch sch.left else sch
 
+-- these events, one after another
 abbrev pub all_tried : Test → Scheme → Plan → List Event → Schedule → Schedule
 all_tried changes s plan [] sch = sch
 all_tried changes s plan (e ∷ events) sch = all_tried changes s plan events (tried changes s plan e sch)
@@ -50,6 +52,7 @@ turned changes s plan k budget (suc most) sch =
     then turned changes s plan k budget most (delivered changes s plan k budget (tried changes s plan (Accept k) sch))
     else sch
 
+-- how many bytes have arrived
 abbrev pub count_of : Option Conn → ℕ
 count_of None = 0
 count_of (Some y) = y.count
@@ -58,6 +61,7 @@ count_of (Some y) = y.count
 abbrev pub bytes_left : Plan → World → (conn : ℕ) → ℕ
 bytes_left plan w k = length (stream_at w plan k (slice_get w.conns k)) - count_of (slice_get w.conns k)
 
+-- what a round does with a connection: the rest arrives, and is accepted and delivered
 abbrev pub connected : Test → Scheme → Plan → (budget : ℕ) → (conn : ℕ) → Schedule → Schedule
 connected changes s plan budget k sch = turned changes s plan k budget budget (tried changes s plan (Arrive k (bytes_left plan sch.world k)) sch)
 
@@ -72,9 +76,11 @@ host_events plan h =
     gathered (λ p. Step h p ∷ []) (host_plan plan h).procs
     ++ gathered (λ l. Frame h l ∷ Frame h l ∷ []) (length (host_plan plan h).lanes)
 
+-- a round: the hosts, then the connections
 abbrev pub round : Test → Scheme → Plan → (budget : ℕ) → Schedule → Schedule
 round changes s plan budget sch = all_connected changes s plan budget (length plan.wires) (all_tried changes s plan (gathered (host_events plan) (length plan.hosts)) sch)
 
+-- where the round kept nothing the schedule ends
 abbrev pub after_round : Schedule → Schedule → Schedule → Schedule
 after_round before after more = if length after.events == length before.events then after else more
 

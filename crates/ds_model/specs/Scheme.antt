@@ -30,6 +30,7 @@ pub record Failure : Type 0 where
   pub cause : ℕ
   pub place : ℕ
 
+-- what each of these functions must give stands beside it; the concrete ones are defined with the crates of signatures, chains and formats
 pub record Scheme : Type 0 where
   -- whether a certificate's signature is good under the key of the exporter that it names as its signer
   pub good : Delegation → Bool

@@ -41,18 +41,23 @@ empty_scheme = record {
 
 -- one host with one process and a mailbox of its own, slot 1, without a label, for one message
 
+-- its key
 abbrev pub only_key : PubKey
 only_key = record { 0 = 97 ∷ [] }
 
+-- its mailbox
 abbrev pub only_box : BoxPlan
 only_box = record { slot = 1; owner = 0; label = []; room = 1 }
 
+-- the host
 abbrev pub only_host : HostPlan
 only_host = record { key = only_key; silent = false; signing = no_signing; keys = only_key ∷ []; procs = 1; boxes = only_box ∷ []; lanes = []; inlets = [] }
 
+-- the plan of that host alone
 abbrev pub one_host : Plan
 one_host = record { hosts = only_host ∷ []; wires = [] }
 
+-- the world in which the process has this script, label and ownership
 abbrev pub one_process : List Op → (label own : List Category) → World
 one_process script label own = record {
   hosts = record {
@@ -72,15 +77,19 @@ abbrev pub steps : ℕ → List Event
 steps zero = []
 steps (suc n) = Step 0 0 ∷ steps n
 
+-- the world after so many steps
 abbrev pub after_steps : ℕ → World → World
 after_steps n w = run empty_scheme one_host w (steps n)
 
+-- what the process has noted
 abbrev pub notes_of : World → Option (List Note)
 notes_of w = option_map (λ x. x.course.notes) (proc_at w 0 0)
 
+-- where it is in its script
 abbrev pub place_of : World → Option ℕ
 place_of w = option_map (λ x. x.course.place) (proc_at w 0 0)
 
+-- the mailbox of a host that may not be there
 abbrev pub box_in : Option Host → Option Mailbox
 box_in None = None
 box_in (Some x) = slice_get x.boxes 0
@@ -89,6 +98,7 @@ box_in (Some x) = slice_get x.boxes 0
 abbrev pub printing : World
 printing = one_process (ops.Set 0 (codes "hello") ∷ ops.Print 0 ∷ []) [] []
 
+-- its note and place, and that a third step changes nothing
 abbrev pub Prints : Type 0
 Prints = (notes_of (after_steps 2 printing) ≡ Some (notes.Print (codes "hello") ∷ [])) × (place_of (after_steps 2 printing) ≡ Some 2) × (after_steps 3 printing ≡ after_steps 2 printing)
 
@@ -96,6 +106,7 @@ Prints = (notes_of (after_steps 2 printing) ≡ Some (notes.Print (codes "hello"
 abbrev pub a_secret : Category
 a_secret = record { creator = only_key; kind = Secrecy; number = 0 }
 
+-- the world in which the process owns this
 abbrev pub sending : List Category → World
 sending own = one_process (ops.Set 0 (codes "x") ∷ ops.Send 0 1 0 [] [] [] ∷ []) (a_secret ∷ []) own
 
@@ -108,6 +119,7 @@ IsRefused = (notes_of (after_steps 2 (sending [])) ≡ Some (notes.Refused NotFl
 abbrev pub a_mail : Mail Category
 a_mail = record { from = only_key; label = []; own = []; clear = []; payload = codes "x" }
 
+-- the sender's note, and the mailbox
 abbrev pub IsReleased : Type 0
 IsReleased = (notes_of (after_steps 2 (sending (a_secret ∷ []))) ≡ Some (notes.Sent ∷ []))
     × (box_in (slice_get (after_steps 2 (sending (a_secret ∷ []))).hosts 0) ≡ Some (record { waiting = a_mail ∷ []; entries = PutIn a_mail ∷ [] }))
@@ -118,9 +130,11 @@ abbrev pub same_place : Option ℕ → Option ℕ → Bool
 same_place (Some m) (Some n) = m == n
 same_place _ _ = true
 
+-- whether an event moves the process
 abbrev pub moves : Test
 moves w e = not (same_place (place_of w) (place_of (step empty_scheme one_host w e)))
 
+-- for budgets of five and of one
 abbrev pub IsScheduled : Type 0
 IsScheduled = (canonical moves empty_scheme one_host 5 printing ≡ Step 0 0 ∷ Step 0 0 ∷ [])
     × (canonical moves empty_scheme one_host 1 printing ≡ Step 0 0 ∷ [])
@@ -129,6 +143,7 @@ IsScheduled = (canonical moves empty_scheme one_host 5 printing ≡ Step 0 0 ∷
 abbrev pub sending_twice : World
 sending_twice = one_process (ops.Set 0 (codes "x") ∷ ops.Send 0 1 0 [] [] [] ∷ ops.Send 0 1 0 [] [] [] ∷ []) [] []
 
+-- the sender's two notes, and the mailbox
 abbrev pub IsFull : Type 0
 IsFull = (notes_of (after_steps 3 sending_twice) ≡ Some (notes.Sent ∷ notes.Sent ∷ []))
     × (box_in (slice_get (after_steps 3 sending_twice).hosts 0) ≡ Some (record { waiting = a_mail ∷ []; entries = PutIn a_mail ∷ FoundFull a_mail ∷ [] }))
@@ -138,9 +153,11 @@ IsFull = (notes_of (after_steps 3 sending_twice) ≡ Some (notes.Sent ∷ notes.
 abbrev pub other_key : PubKey
 other_key = record { 0 = 98 ∷ [] }
 
+-- a lane of another exporter
 abbrev pub a_lane : LaneCert
 a_lane = record { exporter = other_key; lane = 1; receiver = only_key; label = []; key = other_key; from = 0; until = 1; signature = [] }
 
+-- a message on it
 abbrev pub a_message : Message
 a_message = record { to = only_key; slot = 1; label = []; own = []; clear = []; certs = []; payload = codes "x" }
 
@@ -148,18 +165,23 @@ a_message = record { to = only_key; slot = 1; label = []; own = []; clear = []; 
 abbrev pub reading_scheme : Scheme
 reading_scheme = record empty_scheme { items = λ key inlets stream. Hello a_lane ∷ Framed 0 (a_message ∷ []) ∷ [] }
 
+-- the host with an inlet for that lane
 abbrev pub reading_host : HostPlan
 reading_host = record only_host { inlets = record { exporter = other_key; lane = 1 } ∷ [] }
 
+-- the plan of that host and two links to it
 abbrev pub two_links : Plan
 two_links = record { hosts = reading_host ∷ []; wires = record { host = 0; source = Link } ∷ record { host = 0; source = Link } ∷ [] }
 
+-- a connection on which nothing has come
 abbrev pub new_conn : Conn
 new_conn = record { link = []; count = 0; taken = 0; hand = []; passed = None; failed = None; lines = [] }
 
+-- a host with an inlet that no frame has passed
 abbrev pub with_inlet : Host → Host
 with_inlet x = record x { inlets = None ∷ [] }
 
+-- the world at the start
 abbrev pub reading : World
 reading = record { hosts = at 0 with_inlet (one_process [] [] []).hosts; conns = new_conn ∷ new_conn ∷ [] }
 
@@ -167,9 +189,11 @@ reading = record { hosts = at 0 with_inlet (one_process [] [] []).hosts; conns =
 abbrev pub accepts : List Event
 accepts = Accept 0 ∷ Accept 0 ∷ Deliver 0 ∷ Deliver 0 ∷ Accept 1 ∷ Accept 1 ∷ []
 
+-- what is printed of connection k
 abbrev pub lines_of : ℕ → World → Option (List ConnLine)
 lines_of k w = option_map (λ y. y.lines) (slice_get w.conns k)
 
+-- what is printed of both
 abbrev pub IsStale : Type 0
 IsStale = (lines_of 0 (run reading_scheme two_links reading accepts) ≡ Some (FrameLine 0 1 ∷ PassLine 1 ∷ []))
     × (lines_of 1 (run reading_scheme two_links reading accepts) ≡ Some (StaleLine 0 ∷ []))

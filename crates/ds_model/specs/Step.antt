@@ -32,14 +32,17 @@ pub data Event : Type 0 where
 
 -- PROCESSES
 
+-- the oldest message of a mailbox that may not be there
 abbrev pub oldest_in : Option Mailbox → Option (Mail Category)
 oldest_in None = None
 oldest_in (Some b) = oldest b
 
+-- what is printed of a message that is admitted to a lane that may not be there
 abbrev pub admitted_lines : ℕ → Waiting → Option Queue → List LaneLine
 admitted_lines room m None = []
 admitted_lines room m (Some q) = admitted_line (admit_entry room m q)
 
+-- a log with more lines
 abbrev pub lined : List LaneLine → List LaneLine → List LaneLine
 lined more log = log ++ more
 
@@ -47,6 +50,7 @@ lined more log = log ++ more
 abbrev pub judged : Scheme → HostPlan → Desk → Message → Option Rule
 judged s plan d m = judge_send s (lane_of plan m.to m.label) d.addresses d.store d.moment m.to m.label
 
+-- the certificates that the desk attaches to it
 abbrev pub attached : Scheme → HostPlan → Desk → Message → List (List ℕ)
 attached s plan d m = attach s d.store d.moment plan.key m.label m.own m.clear
 
@@ -60,16 +64,19 @@ perform s plan x p (TakeFrom b reg slot) = record x { procs = at p (told_taken r
 perform s plan x p (Do act reg host) = record x { desk = desk_after plan.key (act_entry s plan x.desk act) x.desk; procs = at p (told_act reg host act (reply_of s plan x.desk (act_entry s plan x.desk act))) x.procs }
 perform s plan x p (Judge m) = record x { procs = at p (told_judged m (attached s plan x.desk m) (judged s plan x.desk m)) x.procs }
 
+-- the host after a step of process p, where there is one
 abbrev pub step_proc : Scheme → HostPlan → Host → ℕ → Option Process → Host
 step_proc s plan x p None = x
 step_proc s plan x p (Some y) = perform s plan x p (ask plan p y)
 
 -- LANE WORKERS
 
+-- what a lift takes of a lane that may not be there
 abbrev pub front_of : Option Queue → List Waiting
 front_of None = []
 front_of (Some q) = front q
 
+-- what is printed where a worker's hand is judged
 abbrev pub checked_in : Scheme → Desk → Option Worker → List LaneLine
 checked_in s d None = []
 checked_in s d (Some e) = checked_lines s d e
@@ -80,6 +87,7 @@ perform_lane s plan x l Wait = x
 perform_lane s plan x l Lift = record x { queues = at l lifted x.queues; workers = at l (told_lifted (front_of (slice_get x.queues l))) x.workers }
 perform_lane s plan x l Check = record x { workers = at l (told_checked s (lane_plan plan l) x.desk) x.workers; logs = at l (lined (checked_in s x.desk (slice_get x.workers l))) x.logs }
 
+-- the host after a frame event of lane l, where there is one
 abbrev pub step_lane : Scheme → HostPlan → Host → ℕ → Option Worker → Host
 step_lane s plan x l None = x
 step_lane s plan x l (Some e) = perform_lane s plan x l (lane_ask s (lane_plan plan l) e)
@@ -91,6 +99,7 @@ pub record Ends : Type 0 where
   pub host : Host
   pub conn : Conn
 
+-- whether a number is fresh at an inlet that may not be there
 abbrev pub fresh_in : ℕ → Option Inlet → Bool
 fresh_in number None = false
 fresh_in number (Some i) = is_fresh number i
@@ -105,32 +114,40 @@ perform_conn s plan x k (Hand b m next) = record { host = record x { boxes = at 
 
 -- the stream that a connection reads: a link's own, or the lane's
 
+-- the stream of a worker that may not be there
 abbrev pub stream_from : Option Worker → List ℕ
 stream_from None = []
 stream_from (Some e) = e.stream
 
+-- the worker of lane l
 abbrev pub worker_at : Option Host → ℕ → Option Worker
 worker_at None l = None
 worker_at (Some x) l = slice_get x.workers l
 
+-- the stream of a connection with this source
 abbrev pub stream_of : World → Source → Conn → List ℕ
 stream_of w Link k = k.link
 stream_of w (OfLane h l) k = stream_from (worker_at (slice_get w.hosts h) l)
 
+-- the part of it that arrived
 abbrev pub arrived : World → Source → Conn → List ℕ
 arrived w source k = take k.count (stream_of w source k)
 
+-- the stream of a connection that may not be there
 abbrev pub stream_at : World → Plan → ℕ → Option Conn → List ℕ
 stream_at w plan k None = []
 stream_at w plan k (Some conn) = stream_of w (wire plan k).source conn
 
+-- a link's stream grows; nothing can be injected into a lane's connection
 abbrev pub injected : Source → List ℕ → Conn → Conn
 injected Link bytes k = record k { link = k.link ++ bytes }
 injected (OfLane h l) bytes k = k
 
+-- the world with this host and this connection
 abbrev pub with_ends : World → ℕ → ℕ → Ends → World
 with_ends w h k ends = record { hosts = at h (λ _. ends.host) w.hosts; conns = at k (λ _. ends.conn) w.conns }
 
+-- the world after connection k to host h asked, where both are there
 abbrev pub step_conn : Scheme → Plan → World → ℕ → ℕ → (Conn → ConnAsk) → Option Host → Option Conn → World
 step_conn s plan w h k asks (Some x) (Some conn) = with_ends w h k (perform_conn s (host_plan plan h) x conn (asks conn))
 step_conn s plan w h k asks _ _ = w
@@ -143,9 +160,11 @@ ticked plan t x = if plan.silent then x else record x { desk = desk_after plan.k
 
 -- WORLDS
 
+-- the world with a change of host h
 abbrev pub on_host : ℕ → (Host → Host) → World → World
 on_host h f w = record { hosts = at h f w.hosts; conns = w.conns }
 
+-- the world with a change of connection k
 abbrev pub on_conn : ℕ → (Conn → Conn) → World → World
 on_conn k f w = record { hosts = w.hosts; conns = at k f w.conns }
 
@@ -160,6 +179,7 @@ resolve plan w (Deliver k) = Deliver k
 resolve plan w (Tick h t) = Tick h t
 resolve plan w (Inject k bytes) = Inject k bytes
 
+-- the world after an event that isn't a copy
 abbrev pub happens : Scheme → Plan → World → Event → World
 happens s plan w (Step h p) = on_host h (λ x. step_proc s (host_plan plan h) x p (slice_get x.procs p)) w
 happens s plan w (Frame h l) = on_host h (λ x. step_lane s (host_plan plan h) x l (slice_get x.workers l)) w

@@ -9,6 +9,7 @@ use Rattle.ds_model.specs.Desk.{Desk}
 use Rattle.ds_model.specs.World.{Process, Mailbox, Queue, Worker, LaneLine, Conn, Host, World}
 use Rattle.ds_model.specs.Step.{arrived}
 
+-- how each thing is printed, its line and its entries, from what the world keeps of it
 pub record Format : Type 0 where
   pub first : List ℕ
   pub host : (host : ℕ) → Desk → List ℕ
@@ -27,6 +28,7 @@ pub record Hiding : Type 0 where
   pub inlet : (host inlet : ℕ) → Bool
   pub conn : (conn : ℕ) → Bool
 
+-- the whole text
 abbrev pub nothing_hidden : Hiding
 nothing_hidden = record { proc = λ h p. false; box = λ h b. false; lane = λ h l. false; inlet = λ h i. false; conn = λ k. false }
 
@@ -35,6 +37,7 @@ abbrev pub section : {X : Type 0} → (X → List ℕ) → Option X → List (Li
 section text None = []
 section text (Some x) = text x ∷ []
 
+-- the section of a lane, of its three parts
 abbrev pub lane_section : (Queue → Worker → List LaneLine → List ℕ) → Option Queue → Option Worker → Option (List LaneLine) → List (List ℕ)
 lane_section text (Some q) (Some e) (Some log) = text q e log ∷ []
 lane_section text _ _ _ = []
@@ -43,6 +46,7 @@ lane_section text _ _ _ = []
 abbrev pub sections : (ℕ → Bool) → (ℕ → List (List ℕ)) → ℕ → List (List ℕ)
 sections hidden text n = gathered (λ i. if hidden i then [] else text i) n
 
+-- the sections of a running host
 abbrev pub host_sections : Format → Hiding → HostPlan → ℕ → Host → List (List ℕ)
 host_sections f hiding plan h x =
     f.host h x.desk
@@ -56,19 +60,23 @@ abbrev pub sections_at : Format → Hiding → HostPlan → ℕ → Option Host 
 sections_at f hiding plan h None = []
 sections_at f hiding plan h (Some x) = if plan.silent then [] else host_sections f hiding plan h x
 
+-- the section of a connection that is there
 abbrev pub conn_section : Format → Plan → World → ℕ → Option Conn → List (List ℕ)
 conn_section f plan w k None = []
 conn_section f plan w k (Some y) = f.conn k y (arrived w (wire plan k).source y) ∷ []
 
+-- a connection to a silent host has none
 abbrev pub conn_sections : Format → Plan → World → ℕ → List (List ℕ)
 conn_sections f plan w k = if (host_plan plan (wire plan k).host).silent then [] else conn_section f plan w k (slice_get w.conns k)
 
+-- the first line, the hosts' sections, and those of connections
 abbrev pub sections_of : Format → Hiding → Plan → World → List (List ℕ)
 sections_of f hiding plan w =
     f.first
     ∷ (gathered (λ h. sections_at f hiding (host_plan plan h) h (slice_get w.hosts h)) (length plan.hosts)
     ++ sections hiding.conn (conn_sections f plan w) (length plan.wires))
 
+-- sections one after another
 abbrev pub joined : List (List ℕ) → List ℕ
 joined [] = []
 joined (section ∷ sections) = section ++ joined sections

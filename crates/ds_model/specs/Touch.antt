@@ -16,6 +16,7 @@ use Rattle.ds_model.specs.LaneWork.{LaneAsk, Wait, Lift, Check, lane_ask}
 use Rattle.ds_model.specs.Connecting.{ConnAsk, Quiet, Become, Number, JudgeOne, Hand, accept, deliver}
 use Rattle.ds_model.specs.Step.{Event, Step, Frame, Arrive, Accept, Deliver, Tick, Inject, Copy, arrived, resolve, step, run}
 
+-- nothing, or an entry in a mailbox, on a lane, at an inlet or at the desk of the host
 pub data Touch : Type 0 where
   Untouched : Touch
   InBox : (box : ℕ) → BoxEntry (Mail Category) → Touch
@@ -25,6 +26,7 @@ pub data Touch : Type 0 where
 
 -- OBJECTS THAT ARE THERE
 
+-- a put into a mailbox
 abbrev pub put_touch : (box room : ℕ) → Mail Category → Option Mailbox → Touch
 put_touch b room m None = Untouched
 put_touch b room m (Some y) = InBox b (put_entry room m y.waiting)
@@ -34,10 +36,12 @@ abbrev pub take_touch : (box : ℕ) → Option (Mail Category) → Touch
 take_touch b None = Untouched
 take_touch b (Some m) = InBox b TookOut
 
+-- a take from a mailbox that may not be there
 abbrev pub take_touch_in : (box : ℕ) → Option Mailbox → Touch
 take_touch_in b None = Untouched
 take_touch_in b (Some y) = take_touch b (oldest y)
 
+-- a message onto a lane
 abbrev pub admit_touch : (lane room : ℕ) → Waiting → Option Queue → Touch
 admit_touch l room m None = Untouched
 admit_touch l room m (Some q) = InLane l (admit_entry room m q)
@@ -47,16 +51,19 @@ abbrev pub lift_touch : (lane : ℕ) → Queue → Touch
 lift_touch l [] = Untouched
 lift_touch l (m ∷ waiting) = InLane l (Lifted (min frame_limit (length (m ∷ waiting))))
 
+-- a lift of a lane that may not be there
 abbrev pub lift_touch_in : (lane : ℕ) → Option Queue → Touch
 lift_touch_in l None = Untouched
 lift_touch_in l (Some q) = lift_touch l q
 
+-- a frame's number at an inlet
 abbrev pub number_touch : (inlet number : ℕ) → Option Inlet → Touch
 number_touch i number None = Untouched
 number_touch i number (Some y) = InInlet i (number_entry number y)
 
 -- WHAT EACH ASK TOUCHES
 
+-- of a process
 abbrev pub touch_ask : Scheme → HostPlan → Host → (proc : ℕ) → Ask → Touch
 touch_ask s plan x p Stay = Untouched
 touch_ask s plan x p (Alone next) = Untouched
@@ -66,11 +73,13 @@ touch_ask s plan x p (TakeFrom b reg slot) = take_touch_in b (slice_get x.boxes 
 touch_ask s plan x p (Do act reg host) = InDesk (act_entry s plan x.desk act)
 touch_ask s plan x p (Judge m) = InDesk Looked
 
+-- of a lane's worker
 abbrev pub touch_lane : Host → (lane : ℕ) → LaneAsk → Touch
 touch_lane x l Wait = Untouched
 touch_lane x l Lift = lift_touch_in l (slice_get x.queues l)
 touch_lane x l Check = InDesk Looked
 
+-- of a connection
 abbrev pub touch_conn : HostPlan → Host → ConnAsk → Touch
 touch_conn plan x Quiet = Untouched
 touch_conn plan x (Become next) = Untouched
@@ -78,18 +87,22 @@ touch_conn plan x (Number i n fresh stale) = number_touch i n (slice_get x.inlet
 touch_conn plan x (JudgeOne lane m rest) = InDesk Looked
 touch_conn plan x (Hand b m next) = put_touch b (box_plan plan b).room m (slice_get x.boxes b)
 
+-- of a process that may not be there
 abbrev pub touch_of_proc : Scheme → HostPlan → Host → (proc : ℕ) → Option Process → Touch
 touch_of_proc s plan x p None = Untouched
 touch_of_proc s plan x p (Some y) = touch_ask s plan x p (ask plan p y)
 
+-- of a worker that may not be there
 abbrev pub touch_of_lane : Scheme → HostPlan → Host → (lane : ℕ) → Option Worker → Touch
 touch_of_lane s plan x l None = Untouched
 touch_of_lane s plan x l (Some e) = touch_lane x l (lane_ask s (lane_plan plan l) e)
 
+-- of a connection that may not be there
 abbrev pub touch_of_conn : HostPlan → (Conn → ConnAsk) → Host → Option Conn → Touch
 touch_of_conn plan asks x None = Untouched
 touch_of_conn plan asks x (Some y) = touch_conn plan x (asks y)
 
+-- a tick makes its entry, also where the moment stays
 abbrev pub touch_of_clock : HostPlan → ℕ → Touch
 touch_of_clock plan t = if plan.silent then Untouched else InDesk (Ticked t)
 
@@ -104,6 +117,7 @@ touch_at s plan w (Arrive k n) h x = Untouched
 touch_at s plan w (Inject k bytes) h x = Untouched
 touch_at s plan w (Copy k j from until) h x = Untouched
 
+-- what an event touches on a host that may not be there
 abbrev pub touch_in : Scheme → Plan → World → Event → ℕ → Option Host → Touch
 touch_in s plan w e h None = Untouched
 touch_in s plan w e h (Some x) = touch_at s plan w e h x
@@ -119,15 +133,18 @@ touches s plan w (e ∷ events) h = touch s plan w e h ∷ touches s plan (step 
 
 -- THE SHARED OBJECTS OF A HOST
 
+-- its desk, and its mailboxes, waiting lists and inlets by their places
 pub record Objects : Type 0 where
   pub desk : Desk
   pub boxes : List Mailbox
   pub queues : List Queue
   pub inlets : List Inlet
 
+-- those of a host
 abbrev pub objects : Host → Objects
 objects x = record { desk = x.desk; boxes = x.boxes; queues = x.queues; inlets = x.inlets }
 
+-- those of host h, where there is one
 abbrev pub objects_at : World → (host : ℕ) → Option Objects
 objects_at w h = option_map objects (slice_get w.hosts h)
 
@@ -141,9 +158,11 @@ touched here (InDesk entry) o = record o { desk = desk_after here entry o.desk }
 
 -- ONE OBJECT: its state, and the entries that are its own, in order
 
+-- what waits in a mailbox
 abbrev pub box_state : (box : ℕ) → Objects → Option (List (Mail Category))
 box_state b o = option_map (λ x. x.waiting) (slice_get o.boxes b)
 
+-- the entry, where it is the mailbox's own
 abbrev pub box_entry : (box : ℕ) → Touch → List (BoxEntry (Mail Category))
 box_entry b (InBox j entry) = if j == b then entry ∷ [] else []
 box_entry b Untouched = []
@@ -151,9 +170,11 @@ box_entry b (InLane j entry) = []
 box_entry b (InInlet j entry) = []
 box_entry b (InDesk entry) = []
 
+-- what waits on a lane
 abbrev pub lane_state : (lane : ℕ) → Objects → Option Queue
 lane_state l o = slice_get o.queues l
 
+-- the entry, where it is the lane's own
 abbrev pub lane_entry : (lane : ℕ) → Touch → List (LaneEntry Waiting)
 lane_entry l (InLane j entry) = if j == l then entry ∷ [] else []
 lane_entry l Untouched = []
@@ -161,9 +182,11 @@ lane_entry l (InBox j entry) = []
 lane_entry l (InInlet j entry) = []
 lane_entry l (InDesk entry) = []
 
+-- the last number of an inlet
 abbrev pub inlet_state : (inlet : ℕ) → Objects → Option Inlet
 inlet_state i o = slice_get o.inlets i
 
+-- the entry, where it is the inlet's own
 abbrev pub inlet_entry : (inlet : ℕ) → Touch → List InletEntry
 inlet_entry i (InInlet j entry) = if j == i then entry ∷ [] else []
 inlet_entry i Untouched = []
@@ -171,9 +194,11 @@ inlet_entry i (InBox j entry) = []
 inlet_entry i (InLane j entry) = []
 inlet_entry i (InDesk entry) = []
 
+-- the desk
 abbrev pub desk_state : Objects → Option Desk
 desk_state o = Some o.desk
 
+-- the entry, where it is the desk's own
 abbrev pub desk_entry : Touch → List DeskEntry
 desk_entry (InDesk entry) = entry ∷ []
 desk_entry Untouched = []
@@ -191,14 +216,18 @@ abbrev pub Replayed : {S E : Type 0} → Scheme → Plan → (host : ℕ) → (O
 Replayed s plan h state own step w events =
     onward (onward (objects_at w h) state) (λ x. replay step x (entries_of own (touches s plan w events h))) ≡ onward (objects_at (run s plan w events) h) state
 
+-- each mailbox
 abbrev pub BoxesReplay : Type 0
 BoxesReplay = (s : Scheme) (plan : Plan) (w : World) (events : List Event) (h b : ℕ) → Replayed s plan h (box_state b) (box_entry b) (box_step (box_plan (host_plan plan h) b).room) w events
 
+-- each lane's waiting list
 abbrev pub LanesReplay : Type 0
 LanesReplay = (s : Scheme) (plan : Plan) (w : World) (events : List Event) (h l : ℕ) → Replayed s plan h (lane_state l) (lane_entry l) (lane_step (lane_plan (host_plan plan h) l).room) w events
 
+-- each inlet
 abbrev pub InletsReplay : Type 0
 InletsReplay = (s : Scheme) (plan : Plan) (w : World) (events : List Event) (h i : ℕ) → Replayed s plan h (inlet_state i) (inlet_entry i) inlet_step w events
 
+-- each desk
 abbrev pub DesksReplay : Type 0
 DesksReplay = (s : Scheme) (plan : Plan) (w : World) (events : List Event) (h : ℕ) → Replayed s plan h desk_state desk_entry (desk_step s (host_plan plan h)) w events

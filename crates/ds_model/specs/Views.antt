@@ -17,13 +17,16 @@ pub record ProcView : Type 0 where
   pub registers : List (List ℕ)
   pub notes : List Note
 
+-- what it sees of itself
 abbrev pub proc_view : Process → ProcView
 proc_view x = record { label = x.label; registers = x.course.registers; notes = x.course.notes }
 
+-- process p of a host that may not be there
 abbrev pub proc_in : Option Host → ℕ → Option Process
 proc_in None p = None
 proc_in (Some x) p = slice_get x.procs p
 
+-- process p of host h, where there is one
 abbrev pub proc_at : World → (host proc : ℕ) → Option Process
 proc_at w h p = proc_in (slice_get w.hosts h) p
 
@@ -41,6 +44,7 @@ pub record HostView : Type 0 where
   pub leaf : ℕ
   pub arrived : List (List ℕ)
 
+-- the arrived bytes of a connection that may not be there
 abbrev pub arrived_in : Plan → World → ℕ → Option Conn → List (List ℕ)
 arrived_in plan w k None = []
 arrived_in plan w k (Some y) = arrived w (wire plan k).source y ∷ []
@@ -49,12 +53,15 @@ arrived_in plan w k (Some y) = arrived w (wire plan k).source y ∷ []
 abbrev pub arrived_at : Plan → World → (conn : ℕ) → List (List ℕ)
 arrived_at plan w k = arrived_in plan w k (slice_get w.conns k)
 
+-- those of each connection to a host
 abbrev pub arrived_to : Plan → World → (host : ℕ) → List (List ℕ)
 arrived_to plan w h = gathered (λ k. if (wire plan k).host == h then arrived_at plan w k else []) (length plan.wires)
 
+-- the view of a desk and of arrived bytes
 abbrev pub host_view : Desk → List (List ℕ) → HostView
 host_view d bytes = record { moment = d.moment; rows = d.rows; store = d.store; addresses = d.addresses; issued = d.issued; leaf = d.leaf; arrived = bytes }
 
+-- the desk of host h, where there is one
 abbrev pub desk_at : World → (host : ℕ) → Option Desk
 desk_at w h = option_map (λ x. x.desk) (slice_get w.hosts h)
 

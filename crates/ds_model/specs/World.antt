@@ -32,6 +32,7 @@ pub record Mail (C : Type 0) : Type 0 where
   pub clear : List C
   pub payload : List ℕ
 
+-- a mailbox, over names
 abbrev pub Mailbox : Type 0
 Mailbox = Box (Mail Category)
 
@@ -85,6 +86,7 @@ pub record Host : Type 0 where
   pub logs : List (List LaneLine)
   pub inlets : List Inlet
 
+-- hosts and connections, by their places
 pub record World : Type 0 where
   pub hosts : List Host
   pub conns : List Conn

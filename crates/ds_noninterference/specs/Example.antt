@@ -17,12 +17,15 @@ use Rattle.ds_noninterference.specs.Law.{Premises}
 abbrev pub public_box : BoxPlan
 public_box = record { slot = 1; owner = 1; label = []; room = 4 }
 
+-- the host
 abbrev pub pair_host : HostPlan
 pair_host = record { key = only_key; silent = false; signing = no_signing; keys = only_key ∷ []; procs = 2; boxes = public_box ∷ []; lanes = []; inlets = [] }
 
+-- the plan of that host alone
 abbrev pub pair : Plan
 pair = record { hosts = pair_host ∷ []; wires = [] }
 
+-- a process that owns what its label has
 abbrev pub process : List Op → (label : List Category) → Process
 process script label = record { script = script; course = record { place = 0; registers = replicate 8 []; notes = [] }; label = label; own = label; clear = []; names = []; made = 1; hand = None }
 
@@ -30,6 +33,7 @@ process script label = record { script = script; course = record { place = 0; re
 abbrev pub taking : List Op
 taking = ops.Take 0 1 ∷ ops.Print 0 ∷ []
 
+-- the world in which the first process has this script
 abbrev pub pair_world : List Op → World
 pair_world script = record {
   hosts = record {
@@ -52,9 +56,11 @@ first_script = ops.Set 1 (codes "yes") ∷ ops.Set 0 (codes "x") ∷ ops.Send 0 
 abbrev pub second_script : List Op
 second_script = ops.Set 1 (codes "no") ∷ ops.Print 1 ∷ ops.Set 0 (codes "x") ∷ ops.Send 0 1 0 [] [] [] ∷ []
 
+-- three steps of the first process and two of the second
 abbrev pub first_events : List Event
 first_events = Step 0 0 ∷ Step 0 0 ∷ Step 0 0 ∷ Step 0 1 ∷ Step 0 1 ∷ []
 
+-- four and two
 abbrev pub second_events : List Event
 second_events = Step 0 0 ∷ Step 0 0 ∷ Step 0 0 ∷ Step 0 0 ∷ Step 0 1 ∷ Step 0 1 ∷ []
 
@@ -66,6 +72,7 @@ IsMet = Premises empty_scheme a_secret (0 ∷ []) pair (pair_world first_script)
 abbrev pub IsMarked : Type 0
 IsMarked = marks empty_scheme a_secret (0 ∷ []) pair (pair_world first_script) first_events ≡ Release 0 0 (ToBox 0 a_mail) ∷ Low (Step 0 1) ∷ Low (Step 0 1) ∷ []
 
+-- what a process has noted at the end
 abbrev pub notes_in : List Op → List Event → (proc : ℕ) → Option (List Note)
 notes_in script events p = option_map (λ x. x.course.notes) (proc_at (run empty_scheme pair (pair_world script) events) 0 p)
 

@@ -10,6 +10,7 @@ use Rattle.ds_model.specs.Keys.{same_key}
 use Rattle.ds_model.specs.Plan.{HostPlan, Plan, Source, Link, OfLane, host_plan, wire, box_plan, lane_plan, inlet_name}
 use Rattle.ds_model.specs.World.{Process}
 
+-- whether a host is among the trusted ones
 abbrev pub is_in : List ℕ → ℕ → Bool
 is_in trusted h = list_any (λ g. g == h) trusted
 
@@ -17,6 +18,7 @@ is_in trusted h = list_any (λ g. g == h) trusted
 abbrev pub high_proc : Category → (t : Bool) → Process → Bool
 high_proc c t x = t && (has by_name c x.label || has by_name c x.own)
 
+-- a process that may not be there
 abbrev pub high_at : Category → (t : Bool) → Option Process → Bool
 high_at c t None = false
 high_at c t (Some x) = high_proc c t x
@@ -34,6 +36,7 @@ abbrev pub high_source : Category → List ℕ → Plan → (receiver : ℕ) →
 high_source c trusted plan r Link = false
 high_source c trusted plan r (OfLane h l) = high_lane c trusted plan h l && is_in trusted r
 
+-- connection k
 abbrev pub high_conn : Category → List ℕ → Plan → (conn : ℕ) → Bool
 high_conn c trusted plan k = high_source c trusted plan (wire plan k).host (wire plan k).source
 
@@ -51,5 +54,6 @@ pub record HighInlet (c : Category) (trusted : List ℕ) (plan : Plan) (r i : �
 abbrev pub trusted_key : List ℕ → Plan → PubKey → Bool
 trusted_key trusted plan key = list_any (λ h. same_key (host_plan plan h).key key) trusted
 
+-- the key is that of a trusted host
 abbrev pub IsTrusted : List ℕ → Plan → PubKey → Type 0
 IsTrusted trusted plan key = trusted_key trusted plan key ≡ true

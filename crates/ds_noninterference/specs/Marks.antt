@@ -20,11 +20,13 @@ pub data Released : Type 0 where
   ToLane : (lane : ℕ) → Message → Released
   ByAct : Act → Released
 
+-- a release by a process, with all that it lets out; nothing to be seen; or the event
 pub data Mark : Type 0 where
   Release : (host proc : ℕ) → Released → Mark
   High : Mark
   Low : Event → Mark
 
+-- what is let out, unless it has the category
 abbrev pub unless_has : Bool → Released → Option Released
 unless_has true r = None
 unless_has false r = Some r
@@ -39,18 +41,22 @@ released c (Alone next) = None
 released c (TakeFrom b reg slot) = None
 released c (Judge m) = None
 
+-- the mark of a high process's step
 abbrev pub mark_released : (host proc : ℕ) → Option Released → Mark
 mark_released h p None = High
 mark_released h p (Some r) = Release h p r
 
+-- the mark of a process's step
 abbrev pub mark_proc : Category → (t : Bool) → HostPlan → (host proc : ℕ) → Option Process → Mark
 mark_proc c t plan h p None = Low (Step h p)
 mark_proc c t plan h p (Some x) = if high_proc c t x then mark_released h p (released c (ask plan p x)) else Low (Step h p)
 
+-- nothing to be seen, or the event
 abbrev pub high_or : Bool → Event → Mark
 high_or true e = High
 high_or false e = Low e
 
+-- the mark of an event that isn't a copy
 abbrev pub mark_of : Category → List ℕ → Plan → World → Event → Mark
 mark_of c trusted plan w (Step h p) = mark_proc c (is_in trusted h) (host_plan plan h) h p (proc_in (slice_get w.hosts h) p)
 mark_of c trusted plan w (Frame h l) = high_or (high_lane c trusted plan h l) (Frame h l)
@@ -65,6 +71,7 @@ mark_of c trusted plan w (Copy k j from until) = Low (Copy k j from until)
 abbrev pub mark : Category → List ℕ → Plan → World → Event → Mark
 mark c trusted plan w e = mark_of c trusted plan w (resolve plan w e)
 
+-- a list with a mark before it, unless that is high
 abbrev pub unless_high : Mark → List Mark → List Mark
 unless_high High ms = ms
 unless_high (Release h p r) ms = Release h p r ∷ ms

@@ -25,10 +25,12 @@ counts_lane plan r i h l =
 abbrev pub high_inlet : Category → List ℕ → Plan → (host inlet : ℕ) → Bool
 high_inlet c trusted plan r i = is_in trusted r && some_place (λ h. some_place (λ l. high_lane c trusted plan h l && counts_lane plan r i h l) (length (host_plan plan h).lanes)) (length plan.hosts)
 
+-- a mailbox of a host that may not be there
 abbrev pub high_box_in : Category → List ℕ → Plan → (host : ℕ) → Option Host → (box : ℕ) → Bool
 high_box_in c trusted plan h None b = false
 high_box_in c trusted plan h (Some x) b = high_box c (is_in trusted h) (host_plan plan h) x.procs b
 
+-- what is high is left out
 abbrev pub high_hidden : Category → List ℕ → Plan → World → Hiding
 high_hidden c trusted plan w = record {
   proc = λ h p. high_at c (is_in trusted h) (proc_at w h p);
@@ -38,5 +40,6 @@ high_hidden c trusted plan w = record {
   conn = high_conn c trusted plan;
 }
 
+-- the sections that are left
 abbrev pub outside_sections : Format → Category → List ℕ → Plan → World → List (List ℕ)
 outside_sections f c trusted plan w = sections_of f (high_hidden c trusted plan w) plan w

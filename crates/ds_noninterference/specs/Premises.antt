@@ -71,5 +71,6 @@ pub record NothingForged (s : Scheme) (c : Category) (trusted : List ℕ) (plan 
       slice_get (s.items (host_plan plan (wire plan k).host).key (host_plan plan (wire plan k).host).inlets (arrived w Link y)) j ≡ Some (Framed number messages) →
       (h l : ℕ) → high_lane c trusted plan h l ≡ true → lane.key ≢ (lane_plan (host_plan plan h) l).cert.key
 
+-- at each world of the run
 abbrev pub Unforged : Scheme → Category → List ℕ → Plan → World → List Event → Type 0
 Unforged s c trusted plan w events = Along s plan (NothingForged s c trusted plan) w events
