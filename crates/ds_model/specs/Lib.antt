@@ -24,3 +24,4 @@ pub mod Text
 pub mod Lawful
 pub mod SmallWorlds
 pub mod Carried
+pub mod Scripted

@@ -7,6 +7,7 @@ ghost use Rattle.ds_model.specs.Touch.{BoxesReplay, LanesReplay, InletsReplay, D
 ghost use Rattle.ds_model.specs.Answer.{ProcessesTold, WorkersTold, ConnectionsTold};
 ghost use Rattle.ds_model.specs.Lawful.{SentLawfully};
 ghost use Rattle.ds_model.specs.SmallWorlds.{Prints, IsRefused, IsReleased, IsScheduled, IsFull, IsStale};
+ghost use Rattle.ds_model.specs.Scripted.{IsScripted};
 ghost use Rattle.ds_model.specs.Carried.{IsCarried};
 
 /// A world has one canonical schedule, by whatever test finds the events that change nothing.
@@ -38,8 +39,8 @@ pub fn sent_lawfully()
 
 /// Small worlds, computed: a process prints; a send to a mailbox of the own host is refused by its label; the same send,
 /// by a process that owns the secret, is a release; the canonical schedule of the one that prints; a full mailbox, of which
-/// the sender learns nothing; a frame that two connections read, fresh on one and stale on the other; and a message that the
-/// canonical schedule carries from one host to another, where it is taken and printed.
+/// the sender learns nothing; a frame that two connections read, fresh on one and stale on the other; a script that
+/// tries what a process may do on its own host; and a message that the canonical schedule carries from one host to another, where it is taken and printed.
 pub fn small_worlds()
     ensures prints { Prints }
     ensures refused { IsRefused }
@@ -47,5 +48,6 @@ pub fn small_worlds()
     ensures scheduled { IsScheduled }
     ensures full { IsFull }
     ensures stale { IsStale }
+    ensures scripted { IsScripted }
     ensures carried { IsCarried }
 {}

@@ -26,3 +26,7 @@ returns-clause-stale c = (refl, refl)
 pub returns-clause-carried : goal.returns-clause-carried
 unfolding Rattle.ds_label.specs.Flow.flows Rattle.ds_label.specs.Flow.same_label Rattle.ds_label.specs.Flow.union
 returns-clause-carried c = (refl, refl, refl, refl)
+
+pub returns-clause-scripted : goal.returns-clause-scripted
+unfolding Rattle.ds_label.specs.Flow.flows Rattle.ds_label.specs.Flow.same_label Rattle.ds_label.specs.Flow.union
+returns-clause-scripted c = (refl, refl, refl)
