@@ -21,7 +21,9 @@ pub mod Answer
 pub mod Views
 pub mod Schedule
 pub mod Text
+pub mod Print
 pub mod Lawful
 pub mod SmallWorlds
 pub mod Carried
 pub mod Scripted
+pub mod Printed

@@ -23,9 +23,11 @@ far_key = record { 0 = 255 ∷ [] }
 abbrev pub far_host : HostPlan
 far_host = record only_host { key = far_key; silent = true; keys = only_key ∷ far_key ∷ []; procs = 0; boxes = [] }
 
+-- the process's own host
 abbrev pub near_host : HostPlan
 near_host = record only_host { keys = only_key ∷ far_key ∷ [] }
 
+-- both, without a connection
 abbrev pub near_and_far : Plan
 near_and_far = record { hosts = near_host ∷ far_host ∷ []; wires = [] }
 
@@ -33,6 +35,7 @@ near_and_far = record { hosts = near_host ∷ far_host ∷ []; wires = [] }
 abbrev pub near : Kind → ℕ → Category
 near kind number = record { creator = only_key; kind = kind; number = number }
 
+-- of the other host
 abbrev pub far : Kind → ℕ → Category
 far kind number = record { creator = far_key; kind = kind; number = number }
 
@@ -67,6 +70,7 @@ script =
     ∷ ops.Print 2
     ∷ []
 
+-- what it notes
 abbrev pub its_notes : List Note
 its_notes =
     notes.NewCat (near Secrecy 1)
@@ -98,6 +102,7 @@ its_notes =
 abbrev pub granting : Mail Category
 granting = record { from = only_key; label = []; own = near Secrecy 0 ∷ []; clear = []; payload = codes "hi" }
 
+-- the one that grants nothing
 abbrev pub plain : Mail Category
 plain = record { from = only_key; label = []; own = []; clear = []; payload = codes "hi" }
 

@@ -9,6 +9,7 @@ ghost use Rattle.ds_model.specs.Lawful.{SentLawfully};
 ghost use Rattle.ds_model.specs.SmallWorlds.{Prints, IsRefused, IsReleased, IsScheduled, IsFull, IsStale};
 ghost use Rattle.ds_model.specs.Scripted.{IsScripted};
 ghost use Rattle.ds_model.specs.Carried.{IsCarried};
+ghost use Rattle.ds_model.specs.Printed.{IsPrinting, IsTrying, IsPosted};
 
 /// A world has one canonical schedule, by whatever test finds the events that change nothing.
 pub fn one_schedule()
@@ -50,4 +51,11 @@ pub fn small_worlds()
     ensures stale { IsStale }
     ensures scripted { IsScripted }
     ensures carried { IsCarried }
+{}
+
+/// The texts of three of the small worlds.
+pub fn small_texts()
+    ensures printing { IsPrinting }
+    ensures trying { IsTrying }
+    ensures posted { IsPosted }
 {}
