@@ -1,0 +1,12 @@
+use Rattle.std.proofs.Common.{◌≡◌, ℕ, List, ◌-◌, ◌++◌, Some, None, slice_index_or}
+use Rattle.ds_chain.specs.Chain.{IsShortestChain}
+use Rattle.ds_chain.specs.Distance.{AreSettled}
+use Rattle.ds_chain.proofs.walk.walk.Given as goal
+
+abbrev pub invariant-loop-walked : goal.invariant-loop-walked
+invariant-loop-walked l =
+    record {
+      settled : AreSettled l.hops l.key l.steps;
+      at : slice_index_or l.steps l.by None ≡ Some (l.count - l.walked);
+      rest : (tail : List ℕ) → IsShortestChain l.hops l.by tail l.key → IsShortestChain l.hops l.creator (l.chain.items ++ tail) l.key;
+    }

@@ -1,0 +1,7 @@
+pub mod Objects
+pub mod Each
+pub mod Runs
+pub mod Steps
+pub mod Still
+pub mod Rounds
+pub mod Answering

@@ -1,0 +1,11 @@
+pub mod Digits
+pub mod Chains
+pub mod Pieces
+pub mod Trees
+pub mod Climbs
+pub mod Lengths
+pub mod Words
+pub mod OneTimes
+pub mod Roots
+pub mod Goods
+pub mod Worked
