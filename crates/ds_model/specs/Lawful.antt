@@ -1,0 +1,179 @@
+-- Delivered only where the rules hold: what lies in a run's past where an event puts a message into a mailbox. A process of
+-- the same host met its own rules and the mailbox's. A message from another host was judged by the receiving exporter, after
+-- a fresh and signed frame; and where the frame is one that a lane of a running host wrote, the sender met its own rules,
+-- and the sending exporter judged the message when it was sent and again when it was framed.
+use Rattle.std.specs.Prelude.{◌≡◌, ℕ, true, List, ◌∷◌, ◌++◌, Some, None, slice_get, map, Contains}
+use Rattle.ds_label.specs.declared.category.Category.{Category}
+use Rattle.ds_label.specs.Names.{by_name}
+use Rattle.ds_cert.specs.declared.lane.LaneCert.{LaneCert}
+use Rattle.ds_msg.specs.declared.message.Message.{Message}
+use Rattle.ds_model.specs.ProcessRules.{mailbox_rule}
+use Rattle.ds_model.specs.Scheme.{Scheme, Framed}
+use Rattle.ds_model.specs.Plan.{Plan, Link, OfLane, IsLane, host_plan, wire, box_plan, lane_plan}
+use Rattle.ds_model.specs.Mailbox.{PutIn, put_entry}
+use Rattle.ds_model.specs.Lane.{Queued, admit_entry}
+use Rattle.ds_model.specs.Inlet.{Inlet, is_fresh}
+use Rattle.ds_model.specs.World.{Process, Mail, Mailbox, Queue, Waiting, Worker, Conn, Host, World}
+use Rattle.ds_model.specs.Asking.{Put, ask, send_rule, mail_of, label_of, lane_of}
+use Rattle.ds_model.specs.LaneWork.{frame_rule, still_good}
+use Rattle.ds_model.specs.Connecting.{Hand, peer, inlet_of, deliver, judge_delivery}
+use Rattle.ds_model.specs.Step.{Event, Step, Frame, Accept, Deliver, judged, arrived, resolve, run}
+
+-- some event of a list, with those before it
+abbrev pub Past : List Event → (List Event → Event → Type 0) → Type 0
+Past events P = (before : List Event) × (e : Event) × (after : List Event) × (events ≡ before ++ e ∷ after) × P before e
+
+module _ (s : Scheme) (plan : Plan) (start : World) where
+  -- the world after these events, and what an event then means
+  abbrev pub after : List Event → World
+  after before = run s plan start before
+
+  -- an event that is a copy means the injection of its bytes
+  abbrev pub Is : List Event → Event → Event → Type 0
+  Is before e meant = resolve plan (after before) e ≡ meant
+
+  -- MESSAGES OF THE OWN HOST
+
+  -- the event is a process's step that puts this into a mailbox, where there is room
+  pub record PutsHere (h p b : ℕ) (mail : Mail Category) (before : List Event) (e : Event) : Type 0 where
+    pub host : Host
+    pub proc : Process
+    pub box : Mailbox
+    pub next : Process
+    pub event : Is before e (Step h p)
+    pub stands : slice_get (after before).hosts h ≡ Some host
+    pub acts : slice_get host.procs p ≡ Some proc
+    pub there : slice_get host.boxes b ≡ Some box
+    pub asks : ask (host_plan plan h) p proc ≡ Put b mail next
+    pub room : put_entry (box_plan (host_plan plan h) b).room mail box.waiting ≡ PutIn mail
+
+  -- it is a message for which the process's rules and the mailbox's hold before this event
+  pub record RulesHere (h p b : ℕ) (mail : Mail Category) (before : List Event) : Type 0 where
+    pub host : Host
+    pub proc : Process
+    pub message : Message
+    pub stands : slice_get (after before).hosts h ≡ Some host
+    pub acts : slice_get host.procs p ≡ Some proc
+    pub says : mail ≡ mail_of (host_plan plan h).key message
+    pub sender : send_rule (host_plan plan h) proc message ≡ None
+    pub mailbox : mailbox_rule by_name (label_of (host_plan plan h) (Some b)) message.label ≡ None
+
+  -- MESSAGES FROM OTHER HOSTS, BACKWARDS
+
+  -- the event delivers this message, which connection k of this lane certificate had passed, into a mailbox, where there is room
+  pub record PutsFrom (k : ℕ) (lane : LaneCert) (m : Message) (before : List Event) (e : Event) : Type 0 where
+    pub host : Host
+    pub conn : Conn
+    pub place : ℕ
+    pub box : Mailbox
+    pub next : Conn
+    pub event : Is before e (Deliver k)
+    pub stands : slice_get (after before).hosts (wire plan k).host ≡ Some host
+    pub here : slice_get (after before).conns k ≡ Some conn
+    pub hello : peer s (host_plan plan (wire plan k).host) (arrived (after before) (wire plan k).source conn) ≡ Some lane
+    pub passed : conn.passed ≡ Some m
+    pub there : slice_get host.boxes place ≡ Some box
+    pub asks : deliver s (host_plan plan (wire plan k).host) conn (arrived (after before) (wire plan k).source conn) ≡ Hand place (mail_of lane.exporter m) next
+    pub room : put_entry (box_plan (host_plan plan (wire plan k).host) place).room (mail_of lane.exporter m) box.waiting ≡ PutIn (mail_of lane.exporter m)
+
+  -- the event judges it by the rules of arrival and of the mailbox, at the host's own desk, and none fails
+  pub record JudgedFrom (k : ℕ) (lane : LaneCert) (m : Message) (before : List Event) (e : Event) : Type 0 where
+    pub host : Host
+    pub event : Is before e (Deliver k)
+    pub stands : slice_get (after before).hosts (wire plan k).host ≡ Some host
+    pub rules : judge_delivery s (host_plan plan (wire plan k).host) host.desk lane m ≡ None
+
+  -- the event takes the frame with these messages: it is signed by the lane's key, and its number is above the inlet's last
+  pub record TakenFrom (k : ℕ) (lane : LaneCert) (number : ℕ) (messages : List Message) (before : List Event) (e : Event) : Type 0 where
+    pub host : Host
+    pub conn : Conn
+    pub place : ℕ
+    pub last : Inlet
+    pub event : Is before e (Accept k)
+    pub stands : slice_get (after before).hosts (wire plan k).host ≡ Some host
+    pub here : slice_get (after before).conns k ≡ Some conn
+    pub item : slice_get (s.items (host_plan plan (wire plan k).host).key (host_plan plan (wire plan k).host).inlets (arrived (after before) (wire plan k).source conn)) conn.taken ≡ Some (Framed number messages)
+    pub signed : s.frame_signed lane.key number messages (arrived (after before) (wire plan k).source conn) ≡ true
+    pub inlet : inlet_of (host_plan plan (wire plan k).host) lane ≡ Some place
+    pub counts : slice_get host.inlets place ≡ Some last
+    pub fresh : is_fresh number last ≡ true
+
+  -- the event frames these messages on lane l of host h, with this number, and judges m by the sending exporter's rule again
+  pub record FramedOn (h l number : ℕ) (messages : List Message) (m : Message) (before : List Event) (e : Event) : Type 0 where
+    pub host : Host
+    pub worker : Worker
+    pub waiting : Waiting
+    pub event : Is before e (Frame h l)
+    pub stands : slice_get (after before).hosts h ≡ Some host
+    pub works : slice_get host.workers l ≡ Some worker
+    pub framed : messages ≡ map (λ w. w.message) (still_good s host.desk worker.hand)
+    pub counted : number ≡ worker.leaf
+    pub among : Contains worker.hand waiting
+    pub message : waiting.message ≡ m
+    pub rule : frame_rule s host.desk waiting ≡ None
+
+  -- the event queues it: a process's judged message finds room on the lane
+  pub record QueuedOn (h l p : ℕ) (m : Message) (before : List Event) (e : Event) : Type 0 where
+    pub host : Host
+    pub proc : Process
+    pub queue : Queue
+    pub event : Is before e (Step h p)
+    pub stands : slice_get (after before).hosts h ≡ Some host
+    pub acts : slice_get host.procs p ≡ Some proc
+    pub hand : proc.hand ≡ Some m
+    pub lane : lane_of (host_plan plan h) m.to m.label ≡ Some l
+    pub waits : slice_get host.queues l ≡ Some queue
+    pub room : admit_entry (lane_plan (host_plan plan h) l).room (record { sender = p; message = m }) queue ≡ Queued (record { sender = p; message = m })
+
+  -- the event judges it first: the process's rules hold, there is a lane, and the sending exporter's rule holds
+  pub record SentAway (h p : ℕ) (m : Message) (before : List Event) (e : Event) : Type 0 where
+    pub host : Host
+    pub proc : Process
+    pub event : Is before e (Step h p)
+    pub stands : slice_get (after before).hosts h ≡ Some host
+    pub acts : slice_get host.procs p ≡ Some proc
+    pub sender : send_rule (host_plan plan h) proc m ≡ None
+    pub desk : judged s (host_plan plan h) host.desk m ≡ None
+
+  -- in the past it was framed so, before that queued, and before that judged
+  abbrev pub SentBy : (host lane number : ℕ) → List Message → Message → List Event → Type 0
+  SentBy h l number messages m events = Past events (λ b e.
+      FramedOn h l number messages m b e × ((p : ℕ) × Past b (λ b' e'.
+      QueuedOn h l p m b' e' × Past b' (λ b'' e''.
+      SentAway h p m b'' e''))))
+
+  -- the frame is one that the lane wrote
+  abbrev pub WroteFrame : (host lane number : ℕ) → List Message → List Event → Type 0
+  WroteFrame h l number messages events = Past events (λ b e. (m : Message) × FramedOn h l number messages m b e)
+
+  -- what holds where a connection's message is put
+  pub record RulesFrom (k : ℕ) (lane : LaneCert) (m : Message) (before : List Event) : Type 0 where
+    pub number : ℕ
+    pub messages : List Message
+    pub good : s.good_lane lane ≡ true
+    pub among : Contains messages m
+    -- judged, after the frame was taken
+    pub judged : Past before (λ b e. JudgedFrom k lane m b e × Past b (TakenFrom k lane number messages))
+    -- a lane's own connection
+    pub own : (h l : ℕ) → (wire plan k).source ≡ OfLane h l → SentBy h l number messages m before
+    -- a link on which a lane's own certificate and frame were read
+    pub link : (h l : ℕ) → (wire plan k).source ≡ Link → IsLane plan h l → lane ≡ (lane_plan (host_plan plan h) l).cert → WroteFrame h l number messages before → SentBy h l number messages m before
+
+  -- of each event of the run that puts a message into a mailbox
+
+  -- of the own host's messages
+  abbrev pub LawfulHere : List Event → Type 0
+  LawfulHere events = (before : List Event) (e : Event) (later : List Event) → events ≡ before ++ e ∷ later → (h p b : ℕ) (mail : Mail Category) → PutsHere h p b mail before e → RulesHere h p b mail before
+
+  -- of messages from other hosts
+  abbrev pub LawfulFrom : List Event → Type 0
+  LawfulFrom events = (before : List Event) (e : Event) (later : List Event) → events ≡ before ++ e ∷ later → (k : ℕ) (lane : LaneCert) (m : Message) → PutsFrom k lane m before e → RulesFrom k lane m before
+
+  -- of all messages
+  pub record Lawful (events : List Event) : Type 0 where
+    pub here : LawfulHere events
+    pub from : LawfulFrom events
+
+-- messages of the own host are delivered only where the rules hold, in each run from any world
+abbrev pub SentLawfully : Type 0
+SentLawfully = (s : Scheme) (plan : Plan) (start : World) (events : List Event) → LawfulHere s plan start events

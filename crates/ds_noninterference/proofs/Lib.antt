@@ -1,0 +1,16 @@
+pub mod Places
+pub mod Flow
+pub mod Asks
+pub mod Procs
+pub mod ProcSteps
+pub mod Lanes
+pub mod Conns
+pub mod Setting
+pub mod Kept
+pub mod Events
+pub mod KeptRuns
+pub mod Relation
+pub mod Induction
+pub mod Views
+pub mod Outside
+pub mod Example
