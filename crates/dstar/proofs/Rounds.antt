@@ -59,10 +59,6 @@ over start w count left kept e =
 
 -- ---- rounds
 
-pub round_done : (w : World) (ps : List ℕ) (more left : ℕ) → length (round w ps left) ≡ 0 → rounds (suc more) w ps left ≡ []
-round_done w ps more left e =
-    cond-false (nat_lt 0 (length (round w ps left))) (round w ps left ++ rounds more (run w (round w ps left)) ps (left - length (round w ps left))) [] (grind (arith, nat_tests))
-
 pub round_more : (w : World) (ps : List ℕ) (more left : ℕ) → 0 < length (round w ps left) → rounds (suc more) w ps left ≡ round w ps left ++ rounds more (run w (round w ps left)) ps (left - length (round w ps left))
 round_more w ps more left h =
     cond-true (nat_lt 0 (length (round w ps left))) (round w ps left ++ rounds more (run w (round w ps left)) ps (left - length (round w ps left))) [] (grind (arith, nat_tests))
@@ -70,18 +66,6 @@ round_more w ps more left h =
 pub run-append : (w : World) (ps qs : List ℕ) → run w (ps ++ qs) ≡ run (run w ps) qs
 run-append w [] qs = refl
 run-append w (p ∷ ps) qs = run-append (step w p) ps qs
-
--- after a round that kept none the run is over
-pub stops : (w end : World) (count at left : ℕ) (goal : World) → at < count → end ≡ run w (round w (places 0 (length w.processes)) left) → length (round w (places 0 (length w.processes)) left) ≡ 0 → run w (rounds (count - at) w (places 0 (length w.processes)) left) ≡ goal → end ≡ goal
-stops w end count at left goal h e n g =
-    let ps : List ℕ = places 0 (length w.processes) in
-    let fuel : count - at ≡ suc (count - (at + 1)) = omega arith in
-    let none : round w ps left ≡ [] = no_items (round w ps left) n in
-    e ∙ (ap (run w) none ∙ (sym (ap (run w) (ap (λ k. rounds k w ps left) fuel ∙ round_done w ps (count - (at + 1)) left n)) ∙ g))
-  where
-    no_items : (xs : List ℕ) → length xs ≡ 0 → xs ≡ []
-    no_items [] e = refl
-    no_items (x ∷ xs) e = absurd (omega arith)
 
 -- after another the rest of the rounds is left
 pub continues : (w end : World) (ps : List ℕ) (count at left : ℕ) (goal : World) → at < count → end ≡ run w (round w ps left) → 0 < length (round w ps left) → run w (rounds (count - at) w ps left) ≡ goal → run end (rounds (count - (at + 1)) end ps (left - length (round w ps left))) ≡ goal

@@ -1,6 +1,6 @@
 //! A mailbox of the one host.
 
-ghost use Rattle.std.specs.Prelude.{◌≡◌, ◌≤◌, ◌<◌, ◌^◌, length, OnOk, IfOk, Some, None, MatchOption, []};
+ghost use Rattle.std.specs.Prelude.{◌≡◌, ◌≤◌, ◌<◌, length, OnOk, IfOk, Some, None};
 
 use crate::document::spec::BoxSpec;
 use ds_wire::Bytes;

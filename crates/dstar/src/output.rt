@@ -1,6 +1,6 @@
 //! Writes a text whole.
 
-ghost use Rattle.std.specs.Prelude.{◌≡◌, ◌≤◌, OnOk, OnErr, length};
+ghost use Rattle.std.specs.Prelude.{◌≤◌, OnOk, OnErr};
 ghost use Rattle.ds_base.specs.Counts.{Rose, Appended};
 ghost use Rattle.dstar.specs.Outside.{WroteFront};
 

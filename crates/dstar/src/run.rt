@@ -1,10 +1,8 @@
 //! From the bytes of a document to the text of its run.
 
-ghost use Rattle.std.specs.Prelude.{◌≡◌, ◌++◌, [], ◌∷◌, IfOk, IfSome, OnOk, IfErr, map};
-ghost use Rattle.dstar.specs.Reading.{Gives};
-ghost use Rattle.dstar.specs.Text.{text_of, first_line, host_sections};
-ghost use Rattle.dstar.specs.World.{world_of, run, canonical};
-ghost use Rattle.dstar.specs.Things.{World};
+ghost use Rattle.std.specs.Prelude.{◌≡◌, ◌++◌, IfOk, IfSome, OnOk, IfErr};
+ghost use Rattle.dstar.specs.Text.{text_of};
+ghost use Rattle.dstar.specs.World.{run, canonical};
 ghost use Rattle.dstar.specs.Views.{host_view, document_view, IsFit};
 ghost use Rattle.dstar.specs.Runs.{Reads, IsUnread, TextOf, run_sections};
 

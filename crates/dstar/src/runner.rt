@@ -1,7 +1,7 @@
 //! A process of the one host.
 
-ghost use Rattle.std.specs.Prelude.{◌≡◌, ◌≤◌, ◌<◌, length, OnOk, IfOk, Some, None, MatchBool, slice_get, IfSome, ◌≢◌, Ok, false, if◌then◌else◌};
-ghost use Rattle.ds_script.specs.Inner.{inner, finished};
+ghost use Rattle.std.specs.Prelude.{◌≡◌, ◌≤◌, ◌<◌, length, OnOk, IfOk, Some, slice_get, IfSome, ◌≢◌, Ok};
+ghost use Rattle.ds_script.specs.Inner.{finished};
 ghost use Rattle.ds_script.specs.Fits.{IsScript};
 
 use ds_label::LocalLabel;

@@ -1,6 +1,6 @@
 //! The call for the words `sim`.
 
-ghost use Rattle.std.specs.Prelude.{◌≡◌, ◌≤◌};
+ghost use Rattle.std.specs.Prelude.{◌≤◌};
 ghost use Rattle.dstar.specs.Causes.{Caused};
 
 use crate::document::refusal::Refusal;

@@ -1,7 +1,6 @@
 //! Prints the run.
 
-ghost use Rattle.std.specs.Prelude.{◌≡◌, ◌<◌, ◌≤◌, ◌++◌, ◌∷◌, [], OnOk, IfOk, List, codes, decimal, length, flat_map, map};
-ghost use Rattle.ds_label.specs.Rules.{rule_name};
+ghost use Rattle.std.specs.Prelude.{◌≡◌, ◌<◌, ◌++◌, OnOk, decimal, length, flat_map, map};
 ghost use Rattle.dstar.specs.Text.{digit, shown, shown_byte, note_line, entry_line, process_line, box_line, process_section, box_section, process_sections, host_line, host_sections};
 
 use crate::mailbox::{Entry, Mailbox};

@@ -1,7 +1,7 @@
 //! The one host: an event, a round, the canonical schedule.
 
-ghost use Rattle.std.specs.Prelude.{◌≡◌, ◌≤◌, ◌<◌, length, map, OnOk, IfOk, IfSome, Some, None, MatchBool, slice_get, get_or, position, vec_len, All, ◌≢◌};
-ghost use Rattle.ds_script.specs.Inner.{inner, finished};
+ghost use Rattle.std.specs.Prelude.{◌≡◌, ◌≤◌, ◌<◌, length, map, OnOk, IfOk, IfSome, Some, None, slice_get, get_or, position, All, ◌≢◌};
+ghost use Rattle.ds_script.specs.Inner.{finished};
 ghost use Rattle.ds_script.specs.Fits.{IsScript};
 ghost use Rattle.dstar.specs.Things.{no_process, no_box};
 ghost use Rattle.dstar.specs.World.{process_of, box_of};

@@ -1,4 +1,4 @@
-ghost use Rattle.std.specs.Prelude.{◌≡◌, ◌==◌, ◌<◌, ◌≤◌, ◌^◌, ◌-◌, length, map, List, codes, Some, None, IfOk, IfSome, All, ℕ, true, [], option_map};
+ghost use Rattle.std.specs.Prelude.{◌≡◌, ◌==◌, ◌≤◌, length, map, codes, Some, None, IfOk, IfSome, All, true, [], option_map};
 ghost use Rattle.std.specs.List.{list_all, list_any};
 ghost use Rattle.ds_script.specs.Fits.{IsScript};
 ghost use Rattle.serde_json.specs.View.{view};

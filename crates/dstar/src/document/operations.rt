@@ -1,9 +1,8 @@
-ghost use Rattle.std.specs.Prelude.{◌≡◌, ◌<◌, ◌≤◌, ◌^◌, length, map, List, codes, Some, None, IfOk, All, ℕ, ◌-◌, true};
+ghost use Rattle.std.specs.Prelude.{◌≡◌, ◌<◌, ◌≤◌, ◌^◌, length, map, List, IfOk, All, ℕ, ◌-◌, true};
 ghost use Rattle.ds_script.specs.Fits.{IsOp, IsScript};
 ghost use Rattle.serde_json.specs.View.{view};
-ghost use Rattle.serde_json.specs.Find.{as_str};
 ghost use Rattle.dstar.specs.Reading.{Gives, number_in, each};
-ghost use Rattle.dstar.specs.Document.{Site, own_name_in, register_in, set_of, join_of, ifeq_of, jump_of, print_of, take_of, send_of, worded, operation_of, operation_in, script_in};
+ghost use Rattle.dstar.specs.Document.{own_name_in, register_in, set_of, join_of, ifeq_of, jump_of, print_of, take_of, send_of, worded, operation_in, script_in};
 
 use crate::document::reading::{list, member, nothing, number, object, short_text, text};
 use crate::document::refusal::Refusal;
