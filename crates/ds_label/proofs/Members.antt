@@ -1,5 +1,5 @@
 -- Members of rising lists.
-use Rattle.std.proofs.Common.{◌≡◌, ℕ, zero, suc, ◌≤◌, ◌<◌, Bool, true, false, ◌&&◌, ◌||◌, cond, List, [], ◌∷◌, length, take, drop, get_or, refl, sym, ap, ◌∙◌, subst, arith, length-append, length-drop, add-one, drop-cons, ◌+◌}
+use Rattle.std.proofs.Common.{◌≡◌, ℕ, zero, suc, ◌≤◌, ◌<◌, Bool, true, false, ◌&&◌, ◌||◌, cond, List, [], ◌∷◌, ◌++◌, ◌-◌, length, None, slice_get, take, drop, get_or, refl, sym, ap, ◌∙◌, subst, arith, length-append, length-drop, add-one, drop-cons, ◌+◌}
 use Rattle.std.proofs.lemmas.List.{length-take}
 use Rattle.std.proofs.lemmas.List.Kept.{IsStrictlySortedBy-filter}
 use Rattle.std.specs.Prelude.{Result, Ok, Err, Some}
@@ -7,11 +7,11 @@ use Rattle.std.specs.Bool.{Decides}
 use Rattle.std.specs.Result.{result_err}
 use Rattle.std.specs.declared.cmp.Ordering.{Ordering}
 use Rattle.std.specs.declared.cmp.Ordering.TheVariants.{Less, Equal, Greater}
-use Rattle.std.specs.Ordering.{is_eq, ordering_index, ordering_reverse}
+use Rattle.std.specs.Ordering.{is_eq, is_lt, ordering_index, ordering_reverse}
 use Rattle.std.specs.Cmp.{IsTotalOrder, Equal-is, tied_itself}
 use Rattle.std.specs.List.{list_any, list_all, insert, AllByRecursion, AllWithin, HoldsAt, filter}
 use Rattle.std.specs.List.Sorted.{IsStrictlySortedBy, IsNonDecreasingBy, IsBinarySearchResult, IsSearchInRange}
-use Rattle.ds_label.specs.Flow.{Naming, has, placed, with_member, union, IsRising}
+use Rattle.ds_label.specs.Flow.{Naming, has, placed, with_member, union, last_of, is_above, IsRising}
 use Rattle.ds_label.specs.Search.{IsGap}
 use Rattle.ds_label.proofs.Namings.{IsNaming}
 use lib.Pointwise.{pointwise}
@@ -201,3 +201,42 @@ module _ {C : Type 0} (naming : Naming C) (is : IsNaming naming) where
   pub union-step : (first second whole : List C) (i : ℕ) (d : C) → i < length second → union naming first (drop i second) ≡ whole → union naming (with_member naming (get_or second i d) first) (drop (i + 1) second) ≡ whole
   union-step first second whole i d lt rest =
       rw add-one (sym (union-next first (drop (suc i) second) (get_or second i d)) ∙ ap (union naming first) (sym (drop-cons second i d lt)) ∙ rest)
+
+-- ---- with a member at the end
+
+-- the last element is at the last place
+pub last_of-slice_get : {C : Type 0} (xs : List C) → last_of None xs ≡ slice_get xs (length xs - 1)
+last_of-slice_get [] = refl
+last_of-slice_get (x ∷ xs) = let e : suc (length xs) - 1 ≡ length xs = omega arith in rw e (walk x xs)
+  where
+    walk : {C : Type 0} (x : C) (xs : List C) → last_of (Some x) xs ≡ slice_get (x ∷ xs) (length xs)
+    walk x [] = refl
+    walk x (y ∷ ys) = walk y ys
+
+pub lt_is : (o : Ordering) → is_lt o ≡ true → o ≡ Less
+lt_is Less e = refl
+lt_is Equal e = absurd cc
+lt_is Greater e = absurd cc
+
+module _ {C : Type 0} (naming : Naming C) (is : IsNaming naming) where
+  -- what is below all members is below the last
+  below_last : (x y z : C) (xs : List C) → naming.compare x y ≡ Less → AllByRecursion (λ v. naming.compare x v ≡ Less) xs → is_above naming z (last_of (Some y) xs) ≡ true → naming.compare x z ≡ Less
+  below_last x y z [] here later up = is.total.trans x y z here (lt_is (naming.compare y z) up)
+  below_last x y z (v ∷ vs) here later up = below_last x v z vs later.0 later.1 up
+
+  all_push : (P : C → Type 0) (z : C) (xs : List C) → AllByRecursion P xs → P z → AllByRecursion P (xs ++ z ∷ [])
+  all_push P z [] a p = (p, tt)
+  all_push P z (x ∷ xs) a p = (a.0, all_push P z xs a.1 p)
+
+  pub IsRising-push : (xs : List C) (z : C) → IsRising naming xs → is_above naming z (last_of None xs) ≡ true → IsRising naming (xs ++ z ∷ [])
+  unfolding IsStrictlySortedBy
+  IsRising-push [] z up above = (tt, tt)
+  IsRising-push (x ∷ xs) z up above = walk x xs up above
+    where
+      walk : (x : C) (xs : List C) → IsRising naming (x ∷ xs) → is_above naming z (last_of (Some x) xs) ≡ true → IsRising naming ((x ∷ xs) ++ z ∷ [])
+      walk x [] up above = ((lt_is (naming.compare x z) above, tt), (tt, tt))
+      walk x (y ∷ ys) up above = (all_push (λ v. naming.compare x v ≡ Less) z (y ∷ ys) up.0 (below_last x y z ys up.0.0 up.0.1 above), walk y ys up.1 above)
+
+  -- a rising list with a member above all others at its end
+  pub ended : (old new : List C) (z : C) → IsRising naming old → length old < 64 → is_above naming z (last_of None old) ≡ true → new ≡ old ++ z ∷ [] → IsRising naming new × (length new ≤ 64)
+  ended old new z up few above is-new = (rw is-new (IsRising-push old z up above), rw is-new (omega (arith, length-append old (z ∷ []))))

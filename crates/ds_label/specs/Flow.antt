@@ -1,8 +1,9 @@
 -- Labels as sets of categories of any kind: the names that hosts exchange, or a host's own numbers.
-use Rattle.std.specs.Prelude.{◌≡◌, Bool, true, false, ◌⊎◌, Contains, List, [], ◌∷◌, ◌||◌, ◌&&◌, not, filter}
+use Rattle.std.specs.Prelude.{◌≡◌, Bool, true, false, ◌⊎◌, Contains, List, [], ◌∷◌, ◌||◌, ◌&&◌, not, filter, Option, Some, None}
 use Rattle.std.specs.List.{list_any, list_all}
 use Rattle.std.specs.declared.cmp.Ordering.{Ordering}
 use Rattle.std.specs.declared.cmp.Ordering.TheVariants.{Less, Equal, Greater}
+use Rattle.std.specs.Ordering.{is_lt}
 use Rattle.std.specs.List.Sorted.{IsStrictlySortedBy}
 
 -- how categories of a kind are told apart, which of them are for secrecy (the others are for integrity), and their order
@@ -54,3 +55,13 @@ union naming first (c ∷ second) = union naming (with_member naming c first) se
 -- each member is below those after it, so none stands twice
 abbrev pub IsRising : {C : Type 0} → Naming C → List C → Type 0
 IsRising naming members = IsStrictlySortedBy naming.compare members
+
+-- the last of the members, or what stands before them
+abbrev pub last_of : {C : Type 0} → Option C → List C → Option C
+last_of before [] = before
+last_of before (c ∷ members) = last_of (Some c) members
+
+-- whether c is above that member, if there is one
+abbrev pub is_above : {C : Type 0} → Naming C → C → Option C → Bool
+is_above naming c None = true
+is_above naming c (Some last) = is_lt (naming.compare last c)

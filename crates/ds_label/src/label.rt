@@ -1,9 +1,10 @@
 //! Labels of names.
 
-ghost use Rattle.std.specs.Prelude.{◌≡◌, ◌≤◌, ◌<◌, ◌↔◌, ◌||◌, not, [], length, filter, IfOk, IsOk, OnOk, OnErr, IsErrOf, IsTrue, option_copied, slice_get};
+ghost use Rattle.std.specs.Prelude.{◌≡◌, ◌≤◌, ◌<◌, ◌↔◌, ◌||◌, ◌++◌, not, [], ◌∷◌, None, length, filter, IfOk, IsOk, OnOk, OnErr, IsErrOf, IsTrue, option_copied, slice_get};
 ghost use Rattle.std.specs.List.{list_all};
-ghost use Rattle.ds_label.specs.Flow.{has, with_member, minus, flows, IsRising};
-ghost use Rattle.ds_label.specs.Names.{by_name, is_secrecy};
+ghost use Rattle.ds_label.specs.Flow.{has, with_member, minus, flows, is_above, last_of, IsRising};
+ghost use Rattle.ds_label.specs.Names.{by_name, category_cmp, is_secrecy};
+ghost use Rattle.std.specs.Ordering.{is_lt};
 
 use crate::category::{Category, Kind};
 use crate::fault::{LabelFault, MEMBER_LIMIT};
@@ -113,6 +114,25 @@ impl Label {
         Ok(())
     }
 
+    /// Whether the category is above all members, so that it may be put behind them.
+    pub fn goes_last(&self, member: &Category) -> bool
+        ensures { result ≡ is_above by_name member.now (last_of None self.now) }
+    {
+        is_above_last(self.members.as_slice(), member)
+    }
+
+    /// Puts a category that is above all members behind them, at no more cost than that. After `AllocError`, which says that
+    /// memory ran out, nothing changed.
+    pub fn push_last(&mut self, member: Category) -> Result<(), AllocError>
+        requires order { IsTrue (is_above by_name member (last_of None self.old)) }
+        requires room { length self.old < 64 }
+        ensures ok { OnOk result (self.new ≡ self.old ++ member ∷ []) }
+        ensures err { OnErr result (self.new ≡ self.old) }
+    {
+        self.members.push(member)?;
+        Ok(())
+    }
+
     /// The members that aren't members of the other. `AllocError` where memory runs out.
     #[tactic(auto, unfolding(crate::specs::Flow::minus))]
     pub fn minus(&self, other: &Label) -> Result<Label, AllocError>
@@ -139,6 +159,23 @@ impl Label {
     {
         secrecy_within(self.members.as_slice(), to, own)
             && integrity_within(to.members.as_slice(), self, own)
+    }
+}
+
+/// Whether the first category comes before the second.
+fn is_below(first: &Category, second: &Category) -> bool
+    ensures { result ≡ is_lt (category_cmp first.now second.now) }
+{
+    first.cmp(second).is_lt()
+}
+
+/// Whether the category is above the last of the list, if there is one.
+fn is_above_last(members: &[Category], member: &Category) -> bool
+    ensures { result ≡ is_above by_name member.now (last_of None members.now) }
+{
+    match members.last() {
+        None => true,
+        Some(last) => is_below(last, member),
     }
 }
 

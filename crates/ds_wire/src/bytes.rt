@@ -29,6 +29,20 @@ impl Bytes {
         }
     }
 
+    /// No bytes, with room for that many, so that appending these takes no memory again. `AllocError` where memory runs out.
+    pub fn with_room(alloc: Global, room: usize) -> Result<Bytes, AllocError>
+        ensures { IfOk result (λ b. b ≡ []) }
+    {
+        Ok(Bytes {
+            bytes: Vec::with_capacity(alloc, room)?,
+        })
+    }
+
+    /// The allocator that the bytes came with.
+    pub fn allocator(&self) -> Global {
+        *self.bytes.allocator()
+    }
+
     /// A copy of the slice. `AllocError` where memory runs out.
     pub fn from_slice(alloc: Global, piece: &[u8]) -> Result<Bytes, AllocError>
         ensures { IfOk result (λ b. b ≡ piece.now) }

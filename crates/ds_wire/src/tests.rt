@@ -6,7 +6,7 @@ use std::test::Fail;
 
 #[test]
 fn numbers_are_big_endian_and_read_again(rt: HostRuntime) -> Result<(), Fail> {
-    let mut out = Bytes::new(rt.alloc());
+    let mut out = Bytes::with_room(rt.alloc(), 19)?;
     assert!(rt; out.is_empty());
     put_u8(&mut out, 0xab)?;
     put_u16(&mut out, 0x0102)?;

@@ -1,0 +1,6 @@
+pub mod Categories
+pub mod Fields
+pub mod Spelling
+pub mod Ranges
+pub mod Reading
+pub mod Laws
