@@ -4,3 +4,4 @@ pub mod Spelling
 pub mod Ranges
 pub mod Reading
 pub mod Laws
+pub mod Kept

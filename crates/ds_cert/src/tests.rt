@@ -42,7 +42,7 @@ fn signed_delegation(alloc: Global) -> Result<Delegation, Fail> {
     let key = tree_key(alloc)?;
     let mut made = delegation(alloc, PubKey(key.public()))?;
     let part = made.signed_part()?;
-    made.signature = Bytes::from_vec(key.sign_at(alloc, 1, part.as_slice())?);
+    made.signature = Bytes::from_vec(key.sign_at(1, part.as_slice())?);
     Ok(made)
 }
 

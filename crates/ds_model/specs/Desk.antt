@@ -1,18 +1,16 @@
 -- A host's public state, which its processes and workers share: the moment, the table's rows, the certificates that it
 -- keeps, those that it issued, and its identity key's next leaf. It changes by its entries alone.
-use Rattle.std.specs.Prelude.{ℕ, suc, Bool, true, false, not, ◌&&◌, ◌||◌, ◌==◌, List, [], ◌∷◌, ◌++◌, Option, Some, None, length, max, nat_lt, nat_le, bytes_eq, if◌then◌else◌}
+use Rattle.std.specs.Prelude.{ℕ, suc, Bool, true, false, not, ◌&&◌, ◌||◌, List, [], ◌∷◌, ◌++◌, Option, Some, None, length, max, nat_lt, nat_le, if◌then◌else◌}
 use Rattle.ds_label.specs.declared.category.PubKey.{PubKey}
 use Rattle.ds_label.specs.declared.category.Category.{Category}
 use Rattle.ds_label.specs.declared.rule.Rule.{Rule}
 use Rattle.ds_label.specs.declared.rule.Rule.TheVariants.{KeySpent, BadCert, StoreFull, TableFull}
-use Rattle.std.specs.List.{list_any}
-use Rattle.ds_label.specs.Names.{same_category}
 use Rattle.ds_cert.specs.declared.delegation.Delegation.{Delegation}
 use Rattle.ds_cert.specs.declared.address.Address.{Address}
 use Rattle.ds_cert.specs.declared.cert.Cert.{Cert}
 use Rattle.ds_cert.specs.declared.cert.Cert.TheVariants as certs
+use Rattle.ds_cert.specs.Kept.{is_kept, is_kept_address, with_delegation, with_address}
 use Rattle.ds_model.specs.Stepping.{stepping}
-use Rattle.ds_model.specs.Keys.{same_key}
 use Rattle.ds_model.specs.FirstRule.{unless, first_rule}
 use Rattle.ds_model.specs.Mapping.{is_known, with_row, number_of, row_limit}
 use Rattle.ds_model.specs.Scheme.{Scheme}
@@ -43,32 +41,6 @@ pub data DeskEntry : Type 0 where
   Mapped : Category → DeskEntry
   Looked : DeskEntry
   Denied : Rule → DeskEntry
-
--- lists of certificates have no doubles
-
--- equal in all fields
-abbrev pub same_delegation : Delegation → Delegation → Bool
-same_delegation a b = same_category a.category b.category && (same_key a.to b.to && ((a.from == b.from) && ((a.until == b.until) && (same_key a.by b.by && bytes_eq a.signature b.signature))))
-
--- equal in all fields
-abbrev pub same_address : Address → Address → Bool
-same_address a b = same_key a.exporter b.exporter && (bytes_eq a.address b.address && ((a.from == b.from) && ((a.until == b.until) && bytes_eq a.signature b.signature)))
-
--- whether a list has the delegation
-abbrev pub is_kept : Delegation → List Delegation → Bool
-is_kept new kept = list_any (same_delegation new) kept
-
--- whether a list has the address certificate
-abbrev pub is_kept_address : Address → List Address → Bool
-is_kept_address new kept = list_any (same_address new) kept
-
--- the list with the delegation, unless it is there
-abbrev pub with_delegation : Delegation → List Delegation → List Delegation
-with_delegation new kept = if is_kept new kept then kept else kept ++ new ∷ []
-
--- the list with the address certificate, unless it is there
-abbrev pub with_address : Address → List Address → List Address
-with_address new kept = if is_kept_address new kept then kept else kept ++ new ∷ []
 
 -- A tick never turns the moment back. A delegation takes a leaf, and joins the issued list though it be kept already.
 abbrev pub desk_after : PubKey → DeskEntry → Desk → Desk
