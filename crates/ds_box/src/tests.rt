@@ -33,6 +33,11 @@ fn message(alloc: Global, says: u8) -> Result<LocalMessage, AllocError>
     })
 }
 
+/// A value that threads may hand on.
+fn sent<T: Send>(value: T) -> T {
+    value
+}
+
 /// Puts a message that says one byte, at the next stamp.
 fn put(mailbox: &mut BoxState, alloc: Global, says: u8) -> Result<(), AllocError> {
     let queued = message(alloc, says)?;
@@ -76,7 +81,7 @@ fn are_shown(entries: &[BoxEntry], expected: &[(u64, u8, u8)]) -> bool {
 #[test]
 fn a_full_mailbox_drops_the_new_message_and_enters_it(rt: HostRuntime) -> Result<(), Fail> {
     let alloc = rt.alloc();
-    let mut mailbox = BoxState::new(alloc, LocalLabel::new(alloc), 0, 1);
+    let mut mailbox = sent(BoxState::new(alloc, LocalLabel::new(alloc), 0, 1));
     put(&mut mailbox, alloc, b'x')?;
     put(&mut mailbox, alloc, b'y')?;
     assert_eq!(rt; (mailbox.waits(), mailbox.is_full()), (1, true));

@@ -18,6 +18,11 @@ fn small_key(alloc: Global) -> Result<TreeKey, AllocError> {
     TreeKey::make(alloc, params, seed, id)
 }
 
+/// A value that threads may hand on.
+fn sent<T: Send>(value: T) -> T {
+    value
+}
+
 /// The leaf at which a message was signed, which is the number that the signature begins with.
 fn leaf_signed<K: Keeper>(signer: &mut Signer, keeper: &mut K) -> Result<u8, SignFault> {
     let made = signer.sign(keeper, b"message")?;
@@ -38,6 +43,7 @@ fn each_leaf_signs_once_in_order(rt: HostRuntime) -> Result<(), Fail> {
     let Ok(mut signer) = Signer::resume(small_key(rt.alloc())?, &mut keeper) else {
         return Err(Fail::new("not resumed"));
     };
+    signer = sent(signer);
     assert!(rt; signs_well(&mut signer, &mut keeper));
     for leaf in 1..32 {
         assert_eq!(rt; leaf_signed(&mut signer, &mut keeper), Ok(leaf));
