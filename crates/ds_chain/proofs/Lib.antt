@@ -6,3 +6,4 @@ pub mod Nearer
 pub mod Names
 pub mod Numbered
 pub mod Examples
+pub mod Stores
