@@ -7,3 +7,4 @@ pub mod Names
 pub mod Numbered
 pub mod Examples
 pub mod Stores
+pub mod Delegations
