@@ -40,9 +40,8 @@ pub record Counts (moment : ℕ) (category : Category) (d : Delegation) : Type 0
 pub counts_is : (moment : ℕ) (category : Category) (d : Delegation) → Decides (counts moment category d) (Counts moment category d)
 counts_is moment category d =
     let parts = Decides-and _ _ (same-is by_name names d.category category)
-        (Decides-and _ _ (Decides-and _ _ (leb-true d.from moment, le-leb d.from moment) (Decides-ltb moment d.until))
-        (λ (e : is_good_delegation d ≡ true). e, λ (e : is_good_delegation d ≡ true). e)) in
-    (
+    (Decides-and _ _ (Decides-and _ _ (leb-true d.from moment, le-leb d.from moment) (Decides-ltb moment d.until))
+    (λ (e : is_good_delegation d ≡ true). e, λ (e : is_good_delegation d ≡ true). e)) in (
       λ e. let (subject, ((begun, lasting), good)) = parts.0 e in record { subject = subject; begun = begun; lasting = lasting; good = good },
       λ known. parts.1 (known.subject, ((known.begun, known.lasting), known.good)),
     )

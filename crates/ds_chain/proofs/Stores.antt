@@ -24,8 +24,8 @@ IsStore-push same itself limit Range items new store few absent range = record {
   few = omega (arith, length-append items (new ∷ []));
   ranges = All-push Range items new store.ranges range;
   once = all_pairs_push (λ a b. a ≢ b) items new store.once (λ k d below e.
-    let found : same new (get_or items k d) ≡ true = rw e (itself new) in
-    false≢true (sym absent ∙ list_any_at (same new) items k d below found));
+      let found : same new (get_or items k d) ≡ true = rw e (itself new) in
+      false≢true (sym absent ∙ list_any_at (same new) items k d below found));
 }
 
 -- what is known of each item, of one more too
