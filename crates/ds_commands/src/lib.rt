@@ -9,6 +9,7 @@ mod command;
 mod keys;
 mod lines;
 mod reply;
+mod scan;
 mod verifying;
 mod words;
 
