@@ -14,10 +14,10 @@ use Rattle.ds_model.specs.Mailbox.{PutIn, put_entry}
 use Rattle.ds_model.specs.Lane.{Queued, admit_entry}
 use Rattle.ds_model.specs.Inlet.{Inlet, is_fresh}
 use Rattle.ds_model.specs.World.{Process, Mail, Mailbox, Queue, Waiting, Worker, Conn, Host, World}
-use Rattle.ds_model.specs.Asking.{Put, ask, send_rule, mail_of, label_of, lane_of}
+use Rattle.ds_model.specs.Asking.{Put, Judge, ask, send_rule, mail_of, label_of, lane_of}
 use Rattle.ds_model.specs.LaneWork.{frame_rule, still_good}
-use Rattle.ds_model.specs.Connecting.{Hand, peer, inlet_of, deliver, judge_delivery}
-use Rattle.ds_model.specs.Step.{Event, Step, Frame, Accept, Deliver, judged, arrived, resolve, run}
+use Rattle.ds_model.specs.Connecting.{Number, JudgeOne, Hand, peer, inlet_of, fresh_frame, stale_frame, accept, deliver, judge_delivery}
+use Rattle.ds_model.specs.Step.{Event, Step, Frame, Accept, Deliver, judged, attached, arrived, resolve, run}
 
 -- some event of a list, with those before it
 abbrev pub Past : List Event → (List Event → Event → Type 0) → Type 0
@@ -76,14 +76,20 @@ module _ (s : Scheme) (plan : Plan) (start : World) where
     pub asks : deliver s (host_plan plan (wire plan k).host) conn (arrived (after before) (wire plan k).source conn) ≡ Hand place (mail_of lane.exporter m) next
     pub room : put_entry (box_plan (host_plan plan (wire plan k).host) place).room (mail_of lane.exporter m) box.waiting ≡ PutIn (mail_of lane.exporter m)
 
-  -- the event judges it by the rules of arrival and of the mailbox, at the host's own desk, and none fails
+  -- the event judges it, the first of the connection's hand, by the rules of arrival and of the mailbox, at the host's own
+  -- desk, and none fails
   pub record JudgedFrom (k : ℕ) (lane : LaneCert) (m : Message) (before : List Event) (e : Event) : Type 0 where
     pub host : Host
+    pub conn : Conn
+    pub others : List Message
     pub event : Is before e (Deliver k)
     pub stands : slice_get (after before).hosts (wire plan k).host ≡ Some host
+    pub here : slice_get (after before).conns k ≡ Some conn
+    pub asks : deliver s (host_plan plan (wire plan k).host) conn (arrived (after before) (wire plan k).source conn) ≡ JudgeOne lane m others
     pub rules : judge_delivery s (host_plan plan (wire plan k).host) host.desk lane m ≡ None
 
-  -- the event takes the frame with these messages: it is signed by the lane's key, and its number is above the inlet's last
+  -- the event takes the frame with these messages: it is the next item, after a hello with the lane's certificate, it is
+  -- signed by the lane's key, and its number is above the inlet's last
   pub record TakenFrom (k : ℕ) (lane : LaneCert) (number : ℕ) (messages : List Message) (before : List Event) (e : Event) : Type 0 where
     pub host : Host
     pub conn : Conn
@@ -92,9 +98,11 @@ module _ (s : Scheme) (plan : Plan) (start : World) where
     pub event : Is before e (Accept k)
     pub stands : slice_get (after before).hosts (wire plan k).host ≡ Some host
     pub here : slice_get (after before).conns k ≡ Some conn
+    pub hello : peer s (host_plan plan (wire plan k).host) (arrived (after before) (wire plan k).source conn) ≡ Some lane
     pub item : slice_get (s.items (host_plan plan (wire plan k).host).key (host_plan plan (wire plan k).host).inlets (arrived (after before) (wire plan k).source conn)) conn.taken ≡ Some (Framed number messages)
     pub signed : s.frame_signed lane.key number messages (arrived (after before) (wire plan k).source conn) ≡ true
     pub inlet : inlet_of (host_plan plan (wire plan k).host) lane ≡ Some place
+    pub asks : accept s (host_plan plan (wire plan k).host) conn (arrived (after before) (wire plan k).source conn) ≡ Number place number (fresh_frame conn number messages) (stale_frame conn number)
     pub counts : slice_get host.inlets place ≡ Some last
     pub fresh : is_fresh number last ≡ true
 
@@ -125,13 +133,17 @@ module _ (s : Scheme) (plan : Plan) (start : World) where
     pub waits : slice_get host.queues l ≡ Some queue
     pub room : admit_entry (lane_plan (host_plan plan h) l).room (record { sender = p; message = m }) queue ≡ Queued (record { sender = p; message = m })
 
-  -- the event judges it first: the process's rules hold, there is a lane, and the sending exporter's rule holds
+  -- the event judges it first, as the process asks, and attaches certificates: the process's rules hold, there is a lane,
+  -- and the sending exporter's rule holds
   pub record SentAway (h p : ℕ) (m : Message) (before : List Event) (e : Event) : Type 0 where
     pub host : Host
     pub proc : Process
+    pub bare : Message
     pub event : Is before e (Step h p)
     pub stands : slice_get (after before).hosts h ≡ Some host
     pub acts : slice_get host.procs p ≡ Some proc
+    pub asks : ask (host_plan plan h) p proc ≡ Judge bare
+    pub says : m ≡ record bare { certs = attached s (host_plan plan h) host.desk bare }
     pub sender : send_rule (host_plan plan h) proc m ≡ None
     pub desk : judged s (host_plan plan h) host.desk m ≡ None
 
@@ -141,6 +153,10 @@ module _ (s : Scheme) (plan : Plan) (start : World) where
       FramedOn h l number messages m b e × ((p : ℕ) × Past b (λ b' e'.
       QueuedOn h l p m b' e' × Past b' (λ b'' e''.
       SentAway h p m b'' e''))))
+
+  -- where the connection is a lane's own, it read that lane's certificate, and the message was sent so
+  abbrev pub OwnFrom : (conn : ℕ) → LaneCert → (number : ℕ) → List Message → Message → List Event → Type 0
+  OwnFrom k lane number messages m events = (h l : ℕ) → (wire plan k).source ≡ OfLane h l → (lane ≡ (lane_plan (host_plan plan h) l).cert) × SentBy h l number messages m events
 
   -- the frame is one that the lane wrote
   abbrev pub WroteFrame : (host lane number : ℕ) → List Message → List Event → Type 0
@@ -152,10 +168,8 @@ module _ (s : Scheme) (plan : Plan) (start : World) where
     pub messages : List Message
     pub good : s.good_lane lane ≡ true
     pub among : Contains messages m
-    -- judged, after the frame was taken
-    pub judged : Past before (λ b e. JudgedFrom k lane m b e × Past b (TakenFrom k lane number messages))
-    -- a lane's own connection
-    pub own : (h l : ℕ) → (wire plan k).source ≡ OfLane h l → SentBy h l number messages m before
+    -- judged, after the frame was taken, and on a lane's own connection that after it was written
+    pub judged : Past before (λ b e. JudgedFrom k lane m b e × Past b (λ b' e'. TakenFrom k lane number messages b' e' × OwnFrom k lane number messages m b'))
     -- a link on which a lane's own certificate and frame were read
     pub link : (h l : ℕ) → (wire plan k).source ≡ Link → IsLane plan h l → lane ≡ (lane_plan (host_plan plan h) l).cert → WroteFrame h l number messages before → SentBy h l number messages m before
 

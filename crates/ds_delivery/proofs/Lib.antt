@@ -1,0 +1,9 @@
+pub mod Lists
+pub mod Asks
+pub mod Conns
+pub mod Pasts
+pub mod Kept
+pub mod Arrivals
+pub mod KeptConns
+pub mod Runs
+pub mod Delivered
