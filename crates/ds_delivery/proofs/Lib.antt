@@ -7,3 +7,5 @@ pub mod Arrivals
 pub mod KeptConns
 pub mod Runs
 pub mod Delivered
+pub mod Puts
+pub mod Checks

@@ -1,2 +1,4 @@
 pub mod Premises
 pub mod Delivered
+pub mod Puts
+pub mod Checked
