@@ -9,3 +9,4 @@ pub mod Runs
 pub mod Delivered
 pub mod Puts
 pub mod Checks
+pub mod Example

@@ -2,3 +2,4 @@ pub mod Premises
 pub mod Delivered
 pub mod Puts
 pub mod Checked
+pub mod Example
