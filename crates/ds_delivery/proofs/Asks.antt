@@ -1,5 +1,5 @@
 -- What holds of each thing that a process or a lane's worker asks, of messages in hand.
-use Rattle.std.proofs.Common.{◌≡◌, ℕ, true, List, [], ◌∷◌, Option, Some, None, slice_get, refl, ◌⊎◌, inl, arith}
+use Rattle.std.proofs.Common.{◌≡◌, ◌≢◌, ℕ, true, List, [], ◌∷◌, Option, Some, None, slice_get, refl, sym, ◌∙◌, ◌⊎◌, inl, arith}
 use Rattle.ds_label.specs.declared.category.Category.{Category}
 use Rattle.ds_label.specs.declared.rule.Rule.{Rule}
 use Rattle.ds_script.specs.declared.op.Op.{Op}
@@ -7,7 +7,6 @@ use Rattle.ds_script.specs.declared.op.Op.TheVariants as ops
 use Rattle.ds_script.specs.Inner.{Course, inner}
 use Rattle.ds_msg.specs.declared.message.Message.{Message}
 use Rattle.ds_model.specs.Keys.{same_key}
-use Rattle.ds_model.specs.FirstRule.{or_else}
 use Rattle.ds_model.specs.Scheme.{Scheme}
 use Rattle.ds_model.specs.Plan.{HostPlan, LanePlan}
 use Rattle.ds_model.specs.Desk.{Act}
@@ -15,10 +14,6 @@ use Rattle.ds_model.specs.World.{Process, Waiting, Worker}
 use Rattle.ds_model.specs.Asking.{Ask, Stay, Alone, Put, Admit, TakeFrom, Do, Judge, Target, Not, Into, judge_box, box_of, send_rule, send_here, send_away, message_of, take_from, take_rule, relabel, make, publish, ask_outer, ask_inner, queue_at, lane_of, ask_hand, ask}
 use Rattle.ds_model.specs.LaneWork.{LaneAsk, Wait, Lift, Check, lane_ask_hand, lane_ask}
 use Rattle.ds_model.proofs.Places.{cond_case}
-
-pub first_none : (a b : Option Rule) → or_else a b ≡ None → (a ≡ None) × (b ≡ None)
-first_none None b h = (refl, h)
-first_none (Some r) b h = absurd (grind arith)
 
 -- PROCESSES
 
@@ -31,6 +26,18 @@ pub record AdmitFacts (plan : HostPlan) (x : Process) (l : ℕ) (m : Message) (n
   pub lane : lane_of plan m.to m.label ≡ Some l
   pub empty : next.hand ≡ None
 
+-- a send that the process is at, for which its rules hold
+pub record SendFacts (plan : HostPlan) (x : Process) (m : Message) : Type 0 where
+  pub to : ℕ
+  pub slot : ℕ
+  pub register : ℕ
+  pub label : List Category
+  pub own : List Category
+  pub clear : List Category
+  pub operation : slice_get x.script x.course.place ≡ Some (ops.Send to slot register label own clear)
+  pub says : m ≡ message_of plan x to slot register label own clear
+  pub sender : send_rule plan x m ≡ None
+
 abbrev pub AskFacts : HostPlan → Process → Ask → Type 0
 AskFacts plan x Stay = Unit {0}
 AskFacts plan x (Alone next) = Keeps x next
@@ -38,16 +45,17 @@ AskFacts plan x (Put b mail next) = Keeps x next
 AskFacts plan x (Admit l m next) = AdmitFacts plan x l m next
 AskFacts plan x (TakeFrom b reg slot) = Unit {0}
 AskFacts plan x (Do act reg host) = Unit {0}
-AskFacts plan x (Judge m) = send_rule plan x m ≡ None
+AskFacts plan x (Judge m) = SendFacts plan x m
 
 send_here_facts : (plan : HostPlan) (x : Process) (m : Message) (r : Option Rule) (place : Target) → AskFacts plan x (send_here plan x m r place)
 send_here_facts plan x m (Some r) place = inl refl
 send_here_facts plan x m None (Not r) = inl refl
 send_here_facts plan x m None (Into b) = inl refl
 
-send_away_facts : (plan : HostPlan) (x : Process) (m : Message) (r : Option Rule) → send_rule plan x m ≡ r → AskFacts plan x (send_away x m r)
-send_away_facts plan x m (Some r) e = inl refl
-send_away_facts plan x m None e = e
+send_away_facts : (plan : HostPlan) (x : Process) (to slot reg : ℕ) (label own clear : List Category) (r : Option Rule) → slice_get x.script x.course.place ≡ Some (ops.Send to slot reg label own clear) →
+    send_rule plan x (message_of plan x to slot reg label own clear) ≡ r → AskFacts plan x (send_away x (message_of plan x to slot reg label own clear) r)
+send_away_facts plan x to slot reg label own clear (Some r) o e = inl refl
+send_away_facts plan x to slot reg label own clear None o e = record { to = to; slot = slot; register = reg; label = label; own = own; clear = clear; operation = o; says = refl; sender = e }
 
 take_facts : (plan : HostPlan) (x : Process) (reg slot : ℕ) (o : Option ℕ) (r : Option Rule) → AskFacts plan x (take_from x reg slot o r)
 take_facts plan x reg slot o (Some r) = inl refl
@@ -66,28 +74,28 @@ publish_facts : (plan : HostPlan) (x : Process) (act : Act) (reg host : ℕ) (r 
 publish_facts plan x act reg host (Some r) = inl refl
 publish_facts plan x act reg host None = tt
 
-outer_facts : (plan : HostPlan) (p : ℕ) (x : Process) (o : Option Op) → AskFacts plan x (ask_outer plan p x o)
-outer_facts plan p x None = tt
-outer_facts plan p x (Some (ops.Set reg text)) = tt
-outer_facts plan p x (Some (ops.Join reg left right)) = tt
-outer_facts plan p x (Some (ops.IfEq left right to)) = tt
-outer_facts plan p x (Some (ops.Jump to)) = tt
-outer_facts plan p x (Some (ops.Print reg)) = tt
-outer_facts plan p x (Some (ops.Send host slot reg label own clear)) =
+outer_facts : (plan : HostPlan) (p : ℕ) (x : Process) (o : Option Op) → slice_get x.script x.course.place ≡ o → AskFacts plan x (ask_outer plan p x o)
+outer_facts plan p x None at_op = tt
+outer_facts plan p x (Some (ops.Set reg text)) at_op = tt
+outer_facts plan p x (Some (ops.Join reg left right)) at_op = tt
+outer_facts plan p x (Some (ops.IfEq left right to)) at_op = tt
+outer_facts plan p x (Some (ops.Jump to)) at_op = tt
+outer_facts plan p x (Some (ops.Print reg)) at_op = tt
+outer_facts plan p x (Some (ops.Send host slot reg label own clear)) at_op =
     let m : Message = message_of plan x host slot reg label own clear in
     cond_case (AskFacts plan x) (same_key m.to plan.key) (send_here plan x m (send_rule plan x m) (judge_box plan m.slot m.label)) (send_away x m (send_rule plan x m))
     (λ e. send_here_facts plan x m (send_rule plan x m) (judge_box plan m.slot m.label))
-    (λ e. send_away_facts plan x m (send_rule plan x m) refl)
-outer_facts plan p x (Some (ops.Take reg slot)) = take_facts plan x reg slot (box_of plan slot) (take_rule plan p x (box_of plan slot))
-outer_facts plan p x (Some (ops.SetLabel label)) = relabel_facts plan x label _
-outer_facts plan p x (Some (ops.NewCat kind)) = make_facts plan x _ _
-outer_facts plan p x (Some (ops.Delegate reg c host from until)) = publish_facts plan x _ reg host _
-outer_facts plan p x (Some (ops.Map c)) = publish_facts plan x _ 0 0 _
-outer_facts plan p x (Some (ops.Import reg)) = publish_facts plan x _ 0 0 _
+    (λ e. send_away_facts plan x host slot reg label own clear (send_rule plan x m) at_op refl)
+outer_facts plan p x (Some (ops.Take reg slot)) at_op = take_facts plan x reg slot (box_of plan slot) (take_rule plan p x (box_of plan slot))
+outer_facts plan p x (Some (ops.SetLabel label)) at_op = relabel_facts plan x label _
+outer_facts plan p x (Some (ops.NewCat kind)) at_op = make_facts plan x _ _
+outer_facts plan p x (Some (ops.Delegate reg c host from until)) at_op = publish_facts plan x _ reg host _
+outer_facts plan p x (Some (ops.Map c)) at_op = publish_facts plan x _ 0 0 _
+outer_facts plan p x (Some (ops.Import reg)) at_op = publish_facts plan x _ 0 0 _
 
 inner_facts : (plan : HostPlan) (p : ℕ) (x : Process) (o : Option Course) → AskFacts plan x (ask_inner plan p x o)
 inner_facts plan p x (Some course) = inl refl
-inner_facts plan p x None = outer_facts plan p x (slice_get x.script x.course.place)
+inner_facts plan p x None = outer_facts plan p x (slice_get x.script x.course.place) refl
 
 queue_facts : (plan : HostPlan) (x : Process) (m : Message) (o : Option ℕ) → x.hand ≡ Some m → lane_of plan m.to m.label ≡ o → AskFacts plan x (queue_at x m o)
 queue_facts plan x m None h e = tt
@@ -105,11 +113,11 @@ ask_facts plan p x = hand_facts plan p x x.hand refl
 abbrev pub LaneFacts : Scheme → LanePlan → Worker → LaneAsk → Type 0
 LaneFacts s plan e Wait = Unit {0}
 LaneFacts s plan e Lift = s.has_leaf plan.signing e.leaf ≡ true
-LaneFacts s plan e Check = Unit {0}
+LaneFacts s plan e Check = e.hand ≢ []
 
-lane_hand_facts : (s : Scheme) (plan : LanePlan) (e : Worker) (ms : List Waiting) → LaneFacts s plan e (lane_ask_hand s plan e ms)
-lane_hand_facts s plan e (m ∷ ms) = tt
-lane_hand_facts s plan e [] = cond_case (LaneFacts s plan e) (s.has_leaf plan.signing e.leaf) Lift Wait (λ has. has) (λ _. tt)
+lane_hand_facts : (s : Scheme) (plan : LanePlan) (e : Worker) (ms : List Waiting) → e.hand ≡ ms → LaneFacts s plan e (lane_ask_hand s plan e ms)
+lane_hand_facts s plan e (m ∷ ms) is = λ none. absurd (let no : [] ≡ m ∷ ms = sym none ∙ is in grind arith)
+lane_hand_facts s plan e [] is = cond_case (LaneFacts s plan e) (s.has_leaf plan.signing e.leaf) Lift Wait (λ has. has) (λ _. tt)
 
 pub lane_facts : (s : Scheme) (plan : LanePlan) (e : Worker) → LaneFacts s plan e (lane_ask s plan e)
-lane_facts s plan e = lane_hand_facts s plan e e.hand
+lane_facts s plan e = lane_hand_facts s plan e e.hand refl

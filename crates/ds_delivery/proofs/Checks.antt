@@ -1,5 +1,5 @@
 -- The five checks.
-use Rattle.std.proofs.Common.{◌≡◌, ℕ, Bool, true, false, cond, List, [], ◌∷◌, ◌++◌, Option, Some, None, length, slice_get, option_map, flat_map, Contains, refl, sym, ◌∙◌, ap, ap₂, subst, ◌⊎◌, inl, inr, arith}
+use Rattle.std.proofs.Common.{◌≡◌, ℕ, Bool, true, false, cond, List, [], ◌∷◌, ◌++◌, Option, Some, None, length, slice_get, flat_map, Contains, refl, sym, ◌∙◌, ap, ap₂, subst, ◌⊎◌, inl, inr, arith}
 use Rattle.std.proofs.lemmas.List.Elements.{Contains-append_left, Contains-append_right, Contains-append_cases}
 use Rattle.std.specs.Prelude.{nat_lt, if◌then◌else◌}
 use Rattle.ds_label.specs.declared.category.Category.{Category}
@@ -20,21 +20,19 @@ use Rattle.ds_model.specs.Scheme.{Scheme, Framed}
 use Rattle.ds_model.specs.Plan.{HostPlan, LanePlan, Plan, host_plan, wire, box_plan, lane_plan}
 use Rattle.ds_model.specs.Mailbox.{PutIn, FoundFull, box_enter, put, oldest, took}
 use Rattle.ds_model.specs.Lane.{Queued, QueueFull, lane_after, admit_entry, admit}
-use Rattle.ds_model.specs.Inlet.{Inlet, is_fresh}
+use Rattle.ds_model.specs.Inlet.{Inlet, Fresh, inlet_after, is_fresh, numbered}
+use Rattle.ds_model.specs.Inlet as entries
 use Rattle.ds_model.specs.Desk.{Desk}
 use Rattle.ds_model.specs.World.{Process, Mail, Mailbox, Waiting, Queue, Worker, LaneLine, QueuedLine, FullLine, FramedLine, DroppedLine, PassLine, DropLine, Conn, Host, World}
 use Rattle.ds_model.specs.Asking.{Ask, Put, Admit, TakeFrom, Judge, noted, refused, box_of, label_of, Target, Not, Into, target, judge_box, message_of, send_rule, mail_of, send_here, send_away, send, take_rule, take_from, ask_outer, ask_inner, queue_at, ask_hand, ask, told_taken, told_judged}
-use Rattle.ds_model.specs.LaneWork.{LaneAsk, Wait, Lift, Check, lane_ask_hand, lane_ask, frame_rule, passes, still_good, told_checked, dropped_line, framed_line, checked_lines, admitted_line}
-use Rattle.ds_model.specs.Connecting.{ConnAsk, Quiet, Number, JudgeOne, Hand, peer, inlet_of, fresh_frame, stale_frame, take_frame, frame_from, accept_item, accept_free, accept, put_passed, deliver_to, deliver_from, deliver, target_rule, judge_delivery, told_delivery}
-use Rattle.ds_model.specs.Step.{Step, Frame, Accept, Deliver, judged, attached, arrived, perform, step_proc, checked_in, perform_lane, step_lane, fresh_in, perform_conn, step_conn, lined, admitted_lines, oldest_in, step}
-use Rattle.ds_model.proofs.Places.{at_here, at_still, some_is}
+use Rattle.ds_model.specs.LaneWork.{Wait, Lift, Check, lane_ask_hand, lane_ask, frame_rule, passes, still_good, told_checked, dropped_line, framed_line, checked_lines, admitted_line}
+use Rattle.ds_model.specs.Connecting.{Quiet, Number, JudgeOne, Hand, peer, inlet_of, fresh_frame, stale_frame, take_frame, frame_from, accept_item, accept_free, accept, put_passed, deliver_to, deliver_from, deliver, target_rule, judge_delivery, told_delivery}
+use Rattle.ds_model.specs.Step.{Step, Frame, Accept, Deliver, judged, attached, arrived, perform, checked_in, perform_lane, step_lane, fresh_in, perform_conn, lined, admitted_lines, oldest_in, step}
+use Rattle.ds_model.proofs.Places.{at_still, some_is}
 use Rattle.ds_delivery.specs.Checked.{By, thing, IsAt, IsOpen, FindsRoom, SendChecked, IsFramed, FrameChecked, ArrivalChecked, BoxChecked, TakeChecked, EachChecked}
+use Rattle.ds_delivery.proofs.Afters.{changed, host_after, frame_after, accept_after, deliver_after, accept_end, deliver_end}
 use Rattle.ds_delivery.proofs.Lists.{in_none, in_head, in_tail, in_cases, in_filter, filter_in}
 use Rattle.ds_delivery.proofs.Kept.{passes_none}
-
--- what stands at a place that was changed
-changed : {X : Type 0} (i : ℕ) (f : X → X) (xs : List X) (x : X) → slice_get xs i ≡ Some x → slice_get (at i f xs) i ≡ Some (f x)
-changed i f xs x e = at_here i f xs ∙ ap (option_map f) e
 
 -- a mailbox's room
 
@@ -63,13 +61,9 @@ asks_outer plan p y op free at_op outer =
 
 module _ (s : Scheme) (plan : Plan) (w : World) where
   module _ (h p : ℕ) (x : Host) (y : Process) (stands : slice_get w.hosts h ≡ Some x) (acts : slice_get x.procs p ≡ Some y) where
-    host_after : (a : Ask) → ask (host_plan plan h) p y ≡ a → slice_get (step s plan w (Step h p)).hosts h ≡ Some (perform s (host_plan plan h) x p a)
-    host_after a is = changed h (λ x'. step_proc s (host_plan plan h) x' p (slice_get x'.procs p)) w.hosts x stands
-        ∙ (ap (λ o. Some (step_proc s (host_plan plan h) x p o)) acts ∙ ap (λ b. Some (perform s (host_plan plan h) x p b)) is)
-
     -- a thing of the host after it asked
     after_ask : {X : Type 0} (list : Host → List X) (i : ℕ) (a : Ask) → ask (host_plan plan h) p y ≡ a → (o : Option X) → slice_get (list (perform s (host_plan plan h) x p a)) i ≡ o → thing (step s plan w (Step h p)) h list i ≡ o
-    after_ask {X} list i a is o e = ap (λ (q : Option Host). onward q (λ u. slice_get (list u) i)) (host_after a is) ∙ e
+    after_ask {X} list i a is o e = ap (λ (q : Option Host). onward q (λ u. slice_get (list u) i)) (host_after s plan w h p x y stands acts a is) ∙ e
 
     -- a refusal
     is_refused : (rule : Rule) → ask (host_plan plan h) p y ≡ refused rule y → thing (step s plan w (Step h p)) h (λ u. u.procs) p ≡ Some (noted (notes.Refused rule) y)
@@ -97,7 +91,7 @@ module _ (s : Scheme) (plan : Plan) (w : World) where
       b,
       box,
       after_ask (λ (u : Host). u.procs) p (Put b (mail_of (host_plan plan h).key m) (noted notes.Sent y)) is (Some (noted notes.Sent y)) (changed p (λ _. noted notes.Sent y) x.procs y acts),
-      box_room s plan w h x (step s plan w (Step h p)) (mail_of (host_plan plan h).key m) b (perform s (host_plan plan h) x p (Put b (mail_of (host_plan plan h).key m) (noted notes.Sent y))) (host_after (Put b (mail_of (host_plan plan h).key m) (noted notes.Sent y)) is) refl,
+      box_room s plan w h x (step s plan w (Step h p)) (mail_of (host_plan plan h).key m) b (perform s (host_plan plan h) x p (Put b (mail_of (host_plan plan h).key m) (noted notes.Sent y))) (host_after s plan w h p x y stands acts (Put b (mail_of (host_plan plan h).key m) (noted notes.Sent y)) is) refl,
     )
 
     here_by : (m : Message) → (a : Option Rule) (t : Target) → send_rule (host_plan plan h) y m ≡ a → judge_box (host_plan plan h) m.slot m.label ≡ t → ask (host_plan plan h) p y ≡ send_here (host_plan plan h) y m (send_rule (host_plan plan h) y m) (judge_box (host_plan plan h) m.slot m.label) →
@@ -227,10 +221,6 @@ module _ (s : Scheme) (plan : Plan) (w : World) where
   each_framed d e v c (Some rule) r = Contains-append_left (flat_map (λ u. dropped_line u (frame_rule s d u)) e.hand) (framed_line e.leaf (still_good s d e.hand)) (DroppedLine rule v) (dropped_in d e.hand v rule c r)
   each_framed d e v c None r = filter_in (λ u. passes (frame_rule s d u)) e.hand v c (ap passes r)
 
-  frame_after : (h l : ℕ) (x : Host) (e : Worker) (a : LaneAsk) → slice_get w.hosts h ≡ Some x → slice_get x.workers l ≡ Some e → lane_ask s (lane_plan (host_plan plan h) l) e ≡ a → slice_get (step s plan w (Frame h l)).hosts h ≡ Some (perform_lane s (host_plan plan h) x l a)
-  frame_after h l x e a stands works is = changed h (λ x'. step_lane s (host_plan plan h) x' l (slice_get x'.workers l)) w.hosts x stands
-      ∙ (ap (λ o. Some (step_lane s (host_plan plan h) x l o)) works ∙ ap (λ b. Some (perform_lane s (host_plan plan h) x l b)) is)
-
   frames : (h l : ℕ) (x : Host) (e : Worker) (m : Waiting) (others : List Waiting) (log : List LaneLine) → slice_get w.hosts h ≡ Some x → slice_get x.workers l ≡ Some e → e.hand ≡ m ∷ others → slice_get x.logs l ≡ Some log → IsFramed s plan w h l x e log
   frames h l x e m others log stands works hand prints = record {
     framed = still_good s x.desk e.hand;
@@ -243,7 +233,7 @@ module _ (s : Scheme) (plan : Plan) (w : World) where
   }
     where
       after : slice_get (step s plan w (Frame h l)).hosts h ≡ Some (perform_lane s (host_plan plan h) x l Check)
-      after = frame_after h l x e Check stands works (checks (lane_plan (host_plan plan h) l) e m others hand)
+      after = frame_after s plan w h l x e Check stands works (checks (lane_plan (host_plan plan h) l) e m others hand)
 
       no_more : (v : Waiting) (rule : Rule) → Contains (flat_map (λ u. dropped_line u (frame_rule s x.desk u)) e.hand) (DroppedLine rule v) ⊎ Contains (framed_line e.leaf (still_good s x.desk e.hand)) (DroppedLine rule v) → Contains e.hand v × (frame_rule s x.desk v ≡ Some rule)
       no_more v rule (inl c) = in_dropped x.desk e.hand v rule c
@@ -264,32 +254,12 @@ module _ (s : Scheme) (plan : Plan) (w : World) where
 
   -- CONNECTIONS
 
-  conn_after : (k : ℕ) (asks : Conn → ConnAsk) (x : Host) (y : Conn) (o : Option Host) (q : Option Conn) → o ≡ Some x → q ≡ Some y → slice_get w.conns k ≡ Some y → (a : ConnAsk) → asks y ≡ a →
-      slice_get (step_conn s plan w (wire plan k).host k asks o q).conns k ≡ Some (perform_conn s (host_plan plan (wire plan k).host) x y a).conn
-  conn_after k asks x y o q there here e a is =
-      ap₂ (λ u v. slice_get (step_conn s plan w (wire plan k).host k asks u v).conns k) there here
-      ∙ (changed k (λ _. (perform_conn s (host_plan plan (wire plan k).host) x y (asks y)).conn) w.conns y e
-      ∙ ap (λ b. Some (perform_conn s (host_plan plan (wire plan k).host) x y b).conn) is)
-
-  end_after : (k : ℕ) (asks : Conn → ConnAsk) (x : Host) (y : Conn) (o : Option Host) (q : Option Conn) → o ≡ Some x → q ≡ Some y → slice_get w.hosts (wire plan k).host ≡ Some x → (a : ConnAsk) → asks y ≡ a →
-      slice_get (step_conn s plan w (wire plan k).host k asks o q).hosts (wire plan k).host ≡ Some (perform_conn s (host_plan plan (wire plan k).host) x y a).host
-  end_after k asks x y o q there here e a is =
-      ap₂ (λ u v. slice_get (step_conn s plan w (wire plan k).host k asks u v).hosts (wire plan k).host) there here
-      ∙ (changed (wire plan k).host (λ _. (perform_conn s (host_plan plan (wire plan k).host) x y (asks y)).host) w.hosts x e
-      ∙ ap (λ b. Some (perform_conn s (host_plan plan (wire plan k).host) x y b).host) is)
-
   module _ (k : ℕ) (x : Host) (y : Conn) (lane : LaneCert) (open' : IsOpen s plan w k x y lane) where
     abbrev here : HostPlan
     here = host_plan plan (wire plan k).host
 
     abbrev bytes : List ℕ
     bytes = arrived w (wire plan k).source y
-
-    conn_accepts : (a : ConnAsk) → accept s here y bytes ≡ a → slice_get (step s plan w (Accept k)).conns k ≡ Some (perform_conn s here x y a).conn
-    conn_accepts a is = conn_after k (λ conn. accept s here conn (arrived w (wire plan k).source conn)) x y (slice_get w.hosts (wire plan k).host) (slice_get w.conns k) open'.stands open'.here open'.here a is
-
-    conn_delivers : (a : ConnAsk) → deliver s here y bytes ≡ a → slice_get (step s plan w (Deliver k)).conns k ≡ Some (perform_conn s here x y a).conn
-    conn_delivers a is = conn_after k (λ conn. deliver s here conn (arrived w (wire plan k).source conn)) x y (slice_get w.hosts (wire plan k).host) (slice_get w.conns k) open'.stands open'.here open'.here a is
 
     accepts_frame : (i number : ℕ) (messages : List Message) → y.hand ≡ [] → y.passed ≡ None → y.failed ≡ None → slice_get (s.items here.key here.inlets bytes) y.taken ≡ Some (Framed number messages) → inlet_of here lane ≡ Some i →
         accept s here y bytes ≡ Number i number (fresh_frame y number messages) (stale_frame y number)
@@ -303,10 +273,22 @@ module _ (s : Scheme) (plan : Plan) (w : World) where
 
     number_by : (i number : ℕ) (messages : List Message) (last : Inlet) → slice_get x.inlets i ≡ Some last → accept s here y bytes ≡ Number i number (fresh_frame y number messages) (stale_frame y number) → (c : Bool) → is_fresh number last ≡ c →
         By (unless c Stale)
-        (λ rule. slice_get (step s plan w (Accept k)).conns k ≡ Some (stale_frame y number))
-        (slice_get (step s plan w (Accept k)).conns k ≡ Some (fresh_frame y number messages))
-    number_by i number messages last counts is true r = conn_accepts (Number i number (fresh_frame y number messages) (stale_frame y number)) is ∙ (ap (λ o. Some (if fresh_in number o then fresh_frame y number messages else stale_frame y number)) counts ∙ ap (λ b. Some (if b then fresh_frame y number messages else stale_frame y number)) r)
-    number_by i number messages last counts is false r = conn_accepts (Number i number (fresh_frame y number messages) (stale_frame y number)) is ∙ (ap (λ o. Some (if fresh_in number o then fresh_frame y number messages else stale_frame y number)) counts ∙ ap (λ b. Some (if b then fresh_frame y number messages else stale_frame y number)) r)
+        (λ rule. (slice_get (step s plan w (Accept k)).conns k ≡ Some (stale_frame y number)) × (thing (step s plan w (Accept k)) (wire plan k).host (λ u. u.inlets) i ≡ Some last))
+        ((slice_get (step s plan w (Accept k)).conns k ≡ Some (fresh_frame y number messages)) × (thing (step s plan w (Accept k)) (wire plan k).host (λ u. u.inlets) i ≡ Some (Some number)))
+    number_by i number messages last counts is c r = go c r
+      where
+        conn : slice_get (step s plan w (Accept k)).conns k ≡ Some (if is_fresh number last then fresh_frame y number messages else stale_frame y number)
+        conn = accept_after s plan w k x y open'.stands open'.here (Number i number (fresh_frame y number messages) (stale_frame y number)) is ∙ ap (λ o. Some (if fresh_in number o then fresh_frame y number messages else stale_frame y number)) counts
+
+        inlet : thing (step s plan w (Accept k)) (wire plan k).host (λ u. u.inlets) i ≡ Some (inlet_after (if is_fresh number last then Fresh number else entries.Stale number) last)
+        inlet = ap (λ (q : Option Host). onward q (λ u. slice_get u.inlets i)) (accept_end s plan w k x y open'.stands open'.here (Number i number (fresh_frame y number messages) (stale_frame y number)) is) ∙ changed i (numbered number) x.inlets last counts
+
+        go : (c : Bool) → is_fresh number last ≡ c →
+            By (unless c Stale)
+            (λ rule. (slice_get (step s plan w (Accept k)).conns k ≡ Some (stale_frame y number)) × (thing (step s plan w (Accept k)) (wire plan k).host (λ u. u.inlets) i ≡ Some last))
+            ((slice_get (step s plan w (Accept k)).conns k ≡ Some (fresh_frame y number messages)) × (thing (step s plan w (Accept k)) (wire plan k).host (λ u. u.inlets) i ≡ Some (Some number)))
+        go true r = (conn ∙ ap (λ b. Some (if b then fresh_frame y number messages else stale_frame y number)) r, inlet ∙ ap (λ b. Some (inlet_after (if b then Fresh number else entries.Stale number) last)) r)
+        go false r = (conn ∙ ap (λ b. Some (if b then fresh_frame y number messages else stale_frame y number)) r, inlet ∙ ap (λ b. Some (inlet_after (if b then Fresh number else entries.Stale number) last)) r)
 
     delivers_to : deliver s here y bytes ≡ deliver_to here y lane y.hand y.passed
     delivers_to = ap (λ b. cond b Quiet (deliver_from here y (peer s here bytes))) open'.runs ∙ ap (deliver_from here y) open'.hello
@@ -315,15 +297,15 @@ module _ (s : Scheme) (plan : Plan) (w : World) where
         By r
         (λ rule. slice_get (step s plan w (Deliver k)).conns k ≡ Some (record y { hand = others; lines = y.lines ++ DropLine rule m.slot ∷ [] }))
         (slice_get (step s plan w (Deliver k)).conns k ≡ Some (record y { hand = others; passed = Some m; lines = y.lines ++ PassLine m.slot ∷ [] }))
-    delivery_by m others is (Some rule) r = conn_delivers (JudgeOne lane m others) is ∙ ap (λ o. Some (told_delivery m others o y)) r
-    delivery_by m others is None r = conn_delivers (JudgeOne lane m others) is ∙ ap (λ o. Some (told_delivery m others o y)) r
+    delivery_by m others is (Some rule) r = deliver_after s plan w k x y open'.stands open'.here (JudgeOne lane m others) is ∙ ap (λ o. Some (told_delivery m others o y)) r
+    delivery_by m others is None r = deliver_after s plan w k x y open'.stands open'.here (JudgeOne lane m others) is ∙ ap (λ o. Some (told_delivery m others o y)) r
 
     puts_passed : (b : ℕ) (m : Message) → y.passed ≡ Some m → box_of here m.slot ≡ Some b → deliver s here y bytes ≡ Hand b (mail_of lane.exporter m) (record y { passed = None })
     puts_passed b m passed box = delivers_to ∙ (ap (deliver_to here y lane y.hand) passed ∙ ap (put_passed y (mail_of lane.exporter m)) box)
 
     passed_room : (b : ℕ) (m : Message) → deliver s here y bytes ≡ Hand b (mail_of lane.exporter m) (record y { passed = None }) → FindsRoom s plan w (wire plan k).host b x (step s plan w (Deliver k)) (mail_of lane.exporter m)
     passed_room b m is = box_room s plan w (wire plan k).host x (step s plan w (Deliver k)) (mail_of lane.exporter m) b (perform_conn s here x y (Hand b (mail_of lane.exporter m) (record y { passed = None }))).host
-        (end_after k (λ conn. deliver s here conn (arrived w (wire plan k).source conn)) x y (slice_get w.hosts (wire plan k).host) (slice_get w.conns k) open'.stands open'.here open'.stands (Hand b (mail_of lane.exporter m) (record y { passed = None })) is) refl
+        (deliver_end s plan w k x y open'.stands open'.here (Hand b (mail_of lane.exporter m) (record y { passed = None })) is) refl
 
   pub arrival_checked : ArrivalChecked s plan w
   arrival_checked = record {
@@ -337,7 +319,7 @@ module _ (s : Scheme) (plan : Plan) (w : World) where
         (asks_send h p x y host slot reg label own clear m is says ∙ ap (λ b. cond b (send_here (host_plan plan h) y m (send_rule (host_plan plan h) y m) (judge_box (host_plan plan h) m.slot m.label)) (send_away y m (send_rule (host_plan plan h) y m))) mine);
     puts = λ k b x y lane m is passed box.
         let asks : deliver s (host_plan plan (wire plan k).host) y (arrived w (wire plan k).source y) ≡ Hand b (mail_of lane.exporter m) (record y { passed = None }) = puts_passed k x y lane is b m passed box in
-        (conn_delivers k x y lane is (Hand b (mail_of lane.exporter m) (record y { passed = None })) asks, passed_room k x y lane is b m asks);
+        (deliver_after s plan w k x y is.stands is.here (Hand b (mail_of lane.exporter m) (record y { passed = None })) asks, passed_room k x y lane is b m asks);
   }
 
 pub each_checked : EachChecked

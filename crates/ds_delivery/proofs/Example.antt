@@ -1,8 +1,7 @@
 -- The example's runs meet the premises.
-use Rattle.std.proofs.Common.{◌≡◌, ◌<◌, ℕ, zero, suc, Bool, true, false, List, [], ◌∷◌, ◌++◌, ◌&&◌, Option, Some, None, slice_get, length, take, replicate, flat_map, Contains, codes, bytes_eq, refl, sym, ◌∙◌, ap, subst, inl, inr, arith, eqb, eqb-true}
+use Rattle.std.proofs.Common.{◌≡◌, ℕ, zero, suc, Bool, true, false, List, [], ◌∷◌, ◌++◌, ◌&&◌, Option, Some, None, slice_get, length, take, replicate, flat_map, Contains, codes, refl, sym, ◌∙◌, ap, subst, arith, eqb, eqb-true}
 use Rattle.std.specs.List.{list_all}
 use Rattle.std.proofs.lemmas.Slice.Eq.{bytes_eq-Decides}
-use Rattle.ds_label.specs.declared.category.Category.{Category}
 use Rattle.ds_label.specs.declared.category.PubKey.{PubKey}
 use Rattle.ds_msg.specs.declared.message.Message.{Message}
 use Rattle.ds_model.specs.Keys.{same_key}
@@ -15,10 +14,9 @@ use Rattle.ds_model.specs.Step.{Event, step, run}
 use Rattle.ds_model.specs.SmallWorlds.{only_key}
 use Rattle.ds_model.specs.Carried.{letter, letter_lane, receiving, posting}
 use Rattle.ds_model.proofs.Places.{none_some, some_is}
-use Rattle.ds_delivery.specs.Premises.{Written, stream_with, items_with, CanBeWritten, IsReadable, AtSetup, Spells}
-use Rattle.ds_delivery.specs.Delivered.{Premises}
+use Rattle.ds_delivery.specs.Premises.{Written, stream_with, items_with, CanBeWritten, IsReadable, AtSetup}
 use Rattle.ds_delivery.specs.Example.{is_letter, letter_frames, letter_items, letter_scheme, two_ways, before_both, by_lane, by_link, IsMet}
-use Rattle.ds_delivery.proofs.Lists.{in_none, in_head, in_tail, in_at, map_in}
+use Rattle.ds_delivery.proofs.Lists.{in_head, in_tail, map_in}
 
 and_left : (a b : Bool) → (a && b) ≡ true → a ≡ true
 and_left true b h = refl

@@ -1,6 +1,6 @@
 -- What is kept along each run, of connections: each message in hand is of a frame that was taken, and what was passed was
 -- judged after such a frame was taken; all of one lane certificate.
-use Rattle.std.proofs.Common.{◌≡◌, ℕ, Bool, true, false, List, [], ◌∷◌, ◌++◌, Option, Some, None, slice_get, Contains, refl, sym, ◌∙◌, ap₂, subst}
+use Rattle.std.proofs.Common.{◌≡◌, ◌<◌, ltb-true, arith, ap, ℕ, Bool, true, false, List, [], ◌∷◌, ◌++◌, Option, Some, None, slice_get, Contains, refl, sym, ◌∙◌, subst}
 use Rattle.std.specs.Prelude.{if◌then◌else◌}
 use Rattle.ds_label.specs.declared.rule.Rule.{Rule}
 use Rattle.ds_cert.specs.declared.lane.LaneCert.{LaneCert}
@@ -10,14 +10,30 @@ use Rattle.ds_model.specs.Plan.{Plan, host_plan, wire}
 use Rattle.ds_model.specs.Inlet.{Inlet, is_fresh}
 use Rattle.ds_label.specs.declared.category.Category.{Category}
 use Rattle.ds_model.specs.World.{Mail, Conn, Host, World}
-use Rattle.ds_model.specs.Connecting.{ConnAsk, Quiet, Become, Number, JudgeOne, Hand, peer, fresh_frame, stale_frame, accept, deliver, judge_delivery, told_delivery}
+use Rattle.ds_model.specs.Connecting.{target_rule, ConnAsk, Quiet, Become, Number, JudgeOne, Hand, peer, fresh_frame, stale_frame, accept, deliver, judge_delivery, told_delivery}
 use Rattle.ds_model.specs.Step.{Event, Accept, Deliver, fresh_in, perform_conn, arrived, resolve, run}
 use Rattle.ds_model.specs.Lawful.{Past, TakenFrom, JudgedFrom}
 use Rattle.ds_model.proofs.Places.{none_some, some_is}
 use Rattle.ds_delivery.specs.Premises.{IsReadable}
 use Rattle.ds_delivery.proofs.Lists.{Grows, in_head, in_tail}
 use Rattle.ds_delivery.proofs.Pasts.{past_more, past_now}
+use Rattle.ds_label.specs.Names.{by_name}
+use Rattle.ds_model.specs.ProcessRules.{mailbox_rule}
+use Rattle.ds_model.specs.ExporterRules.{receiver_rule}
+use Rattle.ds_model.specs.Asking.{box_of, label_of, target, judge_box}
+use Rattle.ds_model.proofs.Sends.{first_none}
+use Rattle.ds_delivery.proofs.Afters.{accept_after, deliver_after, means_after}
 use Rattle.ds_delivery.proofs.Conns.{SameHands, NumberFacts, AcceptFacts, accept_facts, JudgeFacts, HandFacts, DeliverFacts, deliver_facts}
+
+-- a fresh number is above the last one
+above : (number : ℕ) (last : Inlet) → is_fresh number last ≡ true → (old : ℕ) → last ≡ Some old → old < number
+above number None e old is = absurd (none_some old is)
+above number (Some last) e old is = subst (λ n. n < number) (some_is last old is) (ltb-true last number e)
+
+-- a mailbox that is found, of a rule that passes
+target_none : (o : Option ℕ) (r : Option Rule) → target_rule (target o r) ≡ None → r ≡ None
+target_none o (Some rule) e = absurd (grind arith)
+target_none o None e = refl
 
 module _ (s : Scheme) (has_spelling : Message → Bool) (plan : Plan) (start : World) (is : IsReadable s has_spelling plan) where
   -- of a message in a connection's hand, where these bytes have arrived
@@ -111,6 +127,7 @@ module _ (s : Scheme) (has_spelling : Message → Bool) (plan : Plan) (start : W
           conn = y;
           place = i;
           last = last;
+          told = fresh_frame y number f.messages;
           event = now;
           stands = there;
           here = here;
@@ -118,9 +135,14 @@ module _ (s : Scheme) (has_spelling : Message → Bool) (plan : Plan) (start : W
           item = f.item;
           signed = is.signed (host_plan plan (wire plan k).host) f.cert (arrived (run s plan start done) (wire plan k).source y) y.taken number f.messages f.read f.item;
           inlet = f.inlet;
-          asks = a ∙ ap₂ (λ u v. Number i number u v) f.fresh_is f.stale_is;
           counts = counts;
-          fresh = new;
+          fresh = above number last new;
+          becomes = ap (λ (w : World). slice_get w.conns k) (means_after s plan (run s plan start done) ev (Accept k) now)
+              ∙ (accept_after s plan (run s plan start done) k x y there here (Number i number fresh stale) a
+              ∙ (ap (λ o. Some (if fresh_in number o then fresh else stale)) counts
+              ∙ (ap (λ b. Some (if b then fresh else stale)) new
+              ∙ ap Some f.fresh_is)));
+          hand = refl;
         }
 
     number_next : (i number : ℕ) (fresh stale : Conn) → NumberFacts s (host_plan plan (wire plan k).host) y (arrived (run s plan start done) (wire plan k).source y) i number fresh stale → accepts ≡ Number i number fresh stale → resolve plan (run s plan start done) ev ≡ Accept k → (o : Option Inlet) → slice_get x.inlets i ≡ o → Next (if fresh_in number o then fresh else stale)
@@ -169,8 +191,28 @@ module _ (s : Scheme) (has_spelling : Message → Bool) (plan : Plan) (start : W
         old : InHand done k (arrived (run s plan start done) (wire plan k).source y) m
         old = kept.hand m (subst (λ ms. Contains ms m) (sym f.first) (in_head m rest))
 
+        rules : (receiver_rule s x.desk.store x.desk.rows x.desk.moment (host_plan plan (wire plan k).host).key cert m ≡ None) × (target_rule (judge_box (host_plan plan (wire plan k).host) m.slot m.label) ≡ None)
+        rules = let n = first_none _ _ j in (n.0, (first_none _ _ n.1).0)
+
         judges : JudgedFrom s plan start k cert m done ev
-        judges = record { host = x; conn = y; others = rest; event = now; stands = there; here = here; asks = a; rules = j }
+        judges = record {
+          host = x;
+          conn = y;
+          others = rest;
+          told = told_delivery m rest None y;
+          event = now;
+          stands = there;
+          here = here;
+          hello = f.read;
+          hand = f.first;
+          arrival = rules.0;
+          mailbox = target_none (box_of (host_plan plan (wire plan k).host) m.slot) (mailbox_rule by_name (label_of (host_plan plan (wire plan k).host) (box_of (host_plan plan (wire plan k).host) m.slot)) m.label) rules.1;
+          becomes = ap (λ (w : World). slice_get w.conns k) (means_after s plan (run s plan start done) ev (Deliver k) now)
+              ∙ (deliver_after s plan (run s plan start done) k x y there here (JudgeOne cert m rest) a
+              ∙ ap (λ o. Some (told_delivery m rest o y)) j);
+          left = refl;
+          passed = refl;
+        }
 
         passed : IsPassed (done ++ ev ∷ []) k (arrived (run s plan start done) (wire plan k).source y) m
         passed = record {
@@ -183,8 +225,8 @@ module _ (s : Scheme) (has_spelling : Message → Bool) (plan : Plan) (start : W
               (judges, subst (λ c. Past done (λ b' e'. TakenFrom s plan start k c old.number old.messages b' e')) (some_is old.lane cert (sym old.read ∙ f.read)) old.taken);
         }
 
-    hand_next : (mail : Mail Category) (next : Conn) → HandFacts s (host_plan plan (wire plan k).host) y (arrived (run s plan start done) (wire plan k).source y) mail next → Next next
-    hand_next mail next f = subst Next (sym f.next_is) (record {
+    hand_next : (b : ℕ) (mail : Mail Category) (next : Conn) → HandFacts s (host_plan plan (wire plan k).host) y (arrived (run s plan start done) (wire plan k).source y) b mail next → Next next
+    hand_next b mail next f = subst Next (sym f.next_is) (record {
       link = refl;
       count = refl;
       kept = record {
@@ -198,7 +240,7 @@ module _ (s : Scheme) (has_spelling : Message → Bool) (plan : Plan) (start : W
     deliver_ask (Become next) a f now = absurd f
     deliver_ask (Number i number fresh stale) a f now = absurd f
     deliver_ask (JudgeOne cert m rest) a f now = judge_next cert m rest (judge_delivery s (host_plan plan (wire plan k).host) x.desk cert m) a f refl now
-    deliver_ask (Hand b mail next) a f now = hand_next mail next f
+    deliver_ask (Hand b mail next) a f now = hand_next b mail next f
 
     pub deliver_next : resolve plan (run s plan start done) ev ≡ Deliver k → Next (perform_conn s (host_plan plan (wire plan k).host) x y delivers).conn
     deliver_next now = deliver_ask delivers refl (deliver_facts s (host_plan plan (wire plan k).host) y (arrived (run s plan start done) (wire plan k).source y)) now

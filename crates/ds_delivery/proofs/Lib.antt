@@ -2,6 +2,7 @@ pub mod Lists
 pub mod Asks
 pub mod Conns
 pub mod Pasts
+pub mod Afters
 pub mod Kept
 pub mod Arrivals
 pub mod KeptConns

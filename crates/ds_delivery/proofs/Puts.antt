@@ -14,7 +14,7 @@ use Rattle.ds_model.specs.LaneWork.{LaneAsk, Wait, Lift, Check, lane_ask}
 use Rattle.ds_model.specs.Connecting.{ConnAsk, Quiet, Become, Number, JudgeOne, Hand, accept, deliver}
 use Rattle.ds_model.specs.Step.{Event, Step, Frame, Arrive, Accept, Deliver, Tick, Inject, Copy, arrived, resolve, run}
 use Rattle.ds_model.specs.Touch.{Touch, Untouched, InBox, InLane, InInlet, InDesk, put_touch, take_touch, take_touch_in, admit_touch, lift_touch_in, number_touch, touch_ask, touch_lane, touch_conn, touch_of_proc, touch_of_lane, touch_of_conn, touch_of_clock, touch_at, touch_in}
-use Rattle.ds_model.specs.Lawful.{PutsHere}
+use Rattle.ds_model.specs.Lawful.{PutsHere, PutsFrom}
 use Rattle.ds_delivery.specs.Puts.{IsFrom, EachIsPut}
 use Rattle.ds_delivery.proofs.Conns.{AcceptFacts, accept_facts, DeliverFacts, deliver_facts}
 
@@ -150,10 +150,9 @@ module _ (s : Scheme) (plan : Plan) (start : World) (before : List Event) (ev : 
       message = f.message;
       to = refl;
       says = sym t.same ∙ f.mail_is;
-      puts = record {
+      puts = subst (λ n. PutsFrom s plan start k n f.cert f.message before ev) t.place (record {
         host = x;
         conn = y;
-        place = b';
         box = t.box;
         next = next;
         event = r;
@@ -164,8 +163,7 @@ module _ (s : Scheme) (plan : Plan) (start : World) (before : List Event) (ev : 
         there = t.there;
         asks = is ∙ ap (λ n. Hand b' n next) f.mail_is;
         room = subst (λ n. put_entry (box_plan (host_plan plan (wire plan k).host) b').room n t.box.waiting ≡ PutIn n) f.mail_is t.entry;
-      };
-      place = t.place;
+      });
     }
       where
         t : PutThere x b' (box_plan (host_plan plan (wire plan k).host) b').room m b mail

@@ -139,6 +139,7 @@ module _ (s : Scheme) (has_spelling : Message → Bool) (plan : Plan) (start : W
         most = short e'.hand (setup.workers h x l e' e w).0;
         frames = [];
         stream = (setup.workers h x l e' e w).1 ∙ sym (append-nil (s.hello (lane_plan (host_plan plan h) l).cert));
+        whole = λ f c. absurd (in_none f c);
         wrote = λ f c. absurd (in_none f c);
       };
     };

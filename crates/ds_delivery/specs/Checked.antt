@@ -94,14 +94,15 @@ module _ (s : Scheme) (plan : Plan) (w : World) where
 
   -- ARRIVAL
   pub record ArrivalChecked : Type 0 where
-    -- the frame's number: a stale frame is dropped with all its messages, a fresh one's are in hand
+    -- the frame's number: a stale frame is dropped with all its messages, and a line says so; a fresh one's messages are in
+    -- hand, and its number is the inlet's last
     pub takes : (k i number : ℕ) (x : Host) (y : Conn) (lane : LaneCert) (messages : List Message) (last : Inlet) →
         IsOpen k x y lane → y.hand ≡ [] → y.passed ≡ None → y.failed ≡ None →
         slice_get (s.items (host_plan plan (wire plan k).host).key (host_plan plan (wire plan k).host).inlets (arrived w (wire plan k).source y)) y.taken ≡ Some (Framed number messages) →
         inlet_of (host_plan plan (wire plan k).host) lane ≡ Some i → slice_get x.inlets i ≡ Some last →
         By (unless (is_fresh number last) Stale)
-        (λ rule. slice_get (step s plan w (Accept k)).conns k ≡ Some (stale_frame y number))
-        (slice_get (step s plan w (Accept k)).conns k ≡ Some (fresh_frame y number messages))
+        (λ rule. (slice_get (step s plan w (Accept k)).conns k ≡ Some (stale_frame y number)) × (thing (step s plan w (Accept k)) (wire plan k).host (λ u. u.inlets) i ≡ Some last))
+        ((slice_get (step s plan w (Accept k)).conns k ≡ Some (fresh_frame y number messages)) × (thing (step s plan w (Accept k)) (wire plan k).host (λ u. u.inlets) i ≡ Some (Some number)))
     -- the receiving exporter's rule, and the mailbox's: a line of a drop, or the message is passed
     pub judges : (k : ℕ) (x : Host) (y : Conn) (lane : LaneCert) (m : Message) (others : List Message) →
         IsOpen k x y lane → y.hand ≡ m ∷ others → y.passed ≡ None →

@@ -2,7 +2,6 @@
 -- outsider wrote a copy of the lane's stream. In place of signatures and spelling stands a toy: a hello is one byte, and a
 -- frame is its number and how many letters it has.
 use Rattle.std.specs.Prelude.{◌≡◌, ℕ, Bool, true, ◌&&◌, ◌==◌, List, [], ◌∷◌, ◌++◌, length, replicate, codes, bytes_eq}
-use Rattle.ds_cert.specs.declared.lane.LaneCert.{LaneCert}
 use Rattle.ds_msg.specs.declared.message.Message.{Message}
 use Rattle.ds_model.specs.Keys.{same_key}
 use Rattle.ds_model.specs.Scheme.{Scheme, Item, Hello, Framed}
@@ -11,7 +10,7 @@ use Rattle.ds_model.specs.Mailbox.{PutIn}
 use Rattle.ds_model.specs.World.{World}
 use Rattle.ds_model.specs.Asking.{mail_of}
 use Rattle.ds_model.specs.Step.{Event, Step, Frame, Arrive, Accept, Deliver, Copy, run}
-use Rattle.ds_model.specs.Touch.{Touch, InBox, touch}
+use Rattle.ds_model.specs.Touch.{InBox, touch}
 use Rattle.ds_model.specs.SmallWorlds.{only_key, other_key, new_conn}
 use Rattle.ds_model.specs.Carried.{letter, letter_lane, toy_scheme, receiver, sender, receiving, posting}
 use Rattle.ds_delivery.specs.Delivered.{Premises}

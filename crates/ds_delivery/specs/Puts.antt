@@ -19,8 +19,7 @@ pub record IsFrom (s : Scheme) (plan : Plan) (start : World) (h b : ℕ) (mail :
   pub message : Message
   pub to : (wire plan conn).host ≡ h
   pub says : mail ≡ mail_of lane.exporter message
-  pub puts : PutsFrom s plan start conn lane message before e
-  pub place : puts.place ≡ b
+  pub puts : PutsFrom s plan start conn b lane message before e
 
 -- whatever message an event of a run puts into a mailbox, a process of the host puts it there, or a connection does
 abbrev pub EachIsPut : Type 0
