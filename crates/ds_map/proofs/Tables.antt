@@ -1,8 +1,7 @@
 -- What tables keep, and that names and numbers are one-to-one under a table.
-use Rattle.std.proofs.Common.{◌≡◌, ◌≢◌, ℕ, zero, suc, ◌+◌, ◌-◌, ◌*◌, ◌/◌, ◌%◌, ◌^◌, ◌<◌, ◌≤◌, length, Bool, true, false, ◌&&◌, ◌||◌, not, cond, List, [], ◌∷◌, ◌++◌, Option, Some, None, refl, sym, ap, ◌∙◌, subst, arith, inl, inr, length-append}
-use Rattle.std.specs.Prelude.{nat_lt, nat_le, ◌==◌, slice_get, IsTrue, ◌⊎◌, bytes_eq}
-use Rattle.std.specs.List.{list_all, list_any}
-use Rattle.std.specs.Bool.{Decides}
+use Rattle.std.proofs.Common.{◌≡◌, ◌≢◌, ℕ, zero, suc, ◌+◌, ◌-◌, ◌*◌, ◌/◌, ◌%◌, ◌^◌, ◌<◌, ◌≤◌, length, Bool, true, false, ◌&&◌, ◌||◌, not, cond, List, [], ◌∷◌, ◌++◌, Option, Some, None, refl, sym, ap, ◌∙◌, subst, arith, length-append}
+use Rattle.std.specs.Prelude.{nat_lt, nat_le, ◌==◌, slice_get}
+use Rattle.std.specs.List.{list_all}
 use Rattle.std.proofs.lemmas.Slice.Eq.{bytes_eq-Decides}
 use Rattle.std.proofs.lemmas.Bool.Decides.{nat_tests, Decides-eqb}
 use Rattle.std.proofs.lemmas.List.Folds.{list_any-append}
@@ -18,7 +17,7 @@ use Rattle.ds_label.proofs.Flows.{all_has}
 use Rattle.ds_model.specs.Keys.{same_key}
 use Rattle.ds_model.specs.Mapping.{is_home, is_known, row_of, number_of, to_number, to_name, kind_number, kind_of, if_kind}
 use Rattle.ds_map.specs.Table.{IsTable, are_distinct, is_stray}
-use Rattle.ds_map.proofs.Rows.{row_of-within, row_of-none}
+use Rattle.ds_map.proofs.Rows.{row_of-none}
 
 not_true : (b : Bool) → not b ≡ true → b ≡ false
 not_true true e = sym e
@@ -169,7 +168,7 @@ same_kind-itself : (k : Kind) → same_kind k k ≡ true
 same_kind-itself Secrecy = refl
 same_kind-itself Integrity = refl
 
-same_kind-is : (k l : Kind) → same_kind k l ≡ true → k ≡ l
+pub same_kind-is : (k l : Kind) → same_kind k l ≡ true → k ≡ l
 same_kind-is Secrecy Secrecy e = refl
 same_kind-is Secrecy Integrity e = absurd cc
 same_kind-is Integrity Secrecy e = absurd cc

@@ -5,9 +5,10 @@ use Rattle.ds_map.proofs.Tables.{numbered_home, none_unknown, grown, new_number}
 use Rattle.ds_map.proofs.table.MapTable.add.Goals as goal
 
 pub returns-in-Some-clause-not_home : goal.returns-in-Some-clause-not_home
-returns-in-Some-clause-not_home c =
-    (λ e. absurd cc,
-    λ e. absurd (numbered_home c.self.inside.here c.self.inside.rows.items c.args.name c.in-Some.local c.to_local.result c.self.invariant (rw (← c.self.view_is) at c.to_local.ensures) c.in-Some.is (rw (← c.self.view_is) at e)))
+returns-in-Some-clause-not_home c = (
+  λ e. absurd cc,
+  λ e. absurd (numbered_home c.self.inside.here c.self.inside.rows.items c.args.name c.in-Some.local c.to_local.result c.self.invariant (rw (← c.self.view_is) at c.to_local.ensures) c.in-Some.is (rw (← c.self.view_is) at e)),
+)
 
 pub invariant_of-self-2 : goal.invariant_of-self-2
 invariant_of-self-2 c =
