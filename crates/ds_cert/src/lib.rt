@@ -2,6 +2,7 @@
 #![tactic(auto)]
 
 mod address;
+mod array;
 mod cert;
 mod delegation;
 mod fault;

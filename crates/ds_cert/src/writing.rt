@@ -10,7 +10,8 @@ use ds_label::{Category, Kind, Label};
 use ds_wire::{Bytes, put_u8, put_u16, put_u64};
 use std::alloc::AllocError;
 
-fn kind_number(kind: Kind) -> u8
+/// The byte that stands for a kind.
+pub fn kind_number(kind: Kind) -> u8
     ensures { result ≡ Rattle.ds_cert.specs.Spelling.kind_number kind }
 {
     match kind {

@@ -2,7 +2,7 @@ use Rattle.std.proofs.Common.{sym, ◌∙◌}
 use Rattle.std.proofs.lemmas.Bool.{false≢true}
 use Rattle.ds_chain.specs.Naming.{hops_of}
 use Rattle.ds_chain.proofs.Numbered.{same_key_is, own_chain, no_signer, no_end, answers}
-use Rattle.ds_chain.proofs.search.search_keys.Goals as goal
+use Rattle.ds_chain.proofs.key_search.search_keys.Goals as goal
 
 pub returns-then-eq : goal.returns-then-eq
 returns-then-eq c =
