@@ -1,13 +1,14 @@
 //! The program: its words, the real input and output, and the status with which the process ends.
 #![tactic(auto)]
 
+mod call;
 mod document;
 mod input;
 mod mailbox;
 mod output;
+mod respond;
 mod run;
 mod runner;
-mod sim;
 mod status;
 #[cfg(test)]
 mod tests;
