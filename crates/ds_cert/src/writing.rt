@@ -41,7 +41,7 @@ fn append_members(out: &mut Bytes, members: &[Category]) -> Result<(), AllocErro
     Ok(())
 }
 
-/// A label.
+/// A label: a count, and its categories of 65 bytes each.
 #[tactic(auto, unfolding(crate::specs::Spelling::spelling_of_label))]
 pub fn append_label(out: &mut Bytes, label: &Label) -> Result<(), AllocError>
     ensures { OnOk result (out.new ≡ out.old ++ spelling_of_label label.now) }
