@@ -1,9 +1,9 @@
 -- The lines of an input, one after another.
-use Rattle.std.proofs.Common.{◌≡◌, ℕ, suc, ◌+◌, ◌<◌, ◌==◌, Bool, true, false, not, cond, List, [], ◌∷◌, length, take, drop, Option, Some, None, refl, sym, ap, subst, ◌∙◌, arith, add-one}
-use Rattle.std.specs.Prelude.{nat_lt, position}
+use Rattle.std.proofs.Common.{◌≡◌, ℕ, suc, ◌+◌, ◌<◌, ◌==◌, Bool, true, false, cond, List, [], ◌∷◌, length, drop, Option, Some, None, refl, ap, ◌∙◌, arith}
+use Rattle.std.specs.Prelude.{nat_lt}
 use Rattle.std.proofs.lemmas.Bool.Decides.{nat_tests}
 use Rattle.std.specs.List.{position_or_len}
-use Rattle.ds_commands.specs.Lines.{cut, cut_at, feed}
+use Rattle.ds_commands.specs.Lines.{cut, cut_at}
 use Rattle.ds_commands.specs.Chains.{lines_of, before_line}
 
 abbrev pub rest_of : Option (List ℕ) → List ℕ

@@ -1,5 +1,5 @@
 -- Chains of certificates from lines: the category, the key, and then delegations, in hex.
-use Rattle.std.specs.Prelude.{ℕ, suc, ◌+◌, ◌==◌, ◌<◌, List, [], ◌∷◌, ◌++◌, codes, decimal, length, nat_lt, Bool, true, false, if◌then◌else◌, Option, Some, None, Result, Ok, Err}
+use Rattle.std.specs.Prelude.{ℕ, suc, ◌==◌, List, [], ◌∷◌, ◌++◌, codes, decimal, length, nat_lt, if◌then◌else◌, Option, Some, None}
 use Rattle.std.specs.List.{flat_map}
 use Rattle.std.specs.Result.{result_ok}
 use Rattle.ds_label.specs.declared.category.PubKey.{PubKey}
@@ -10,7 +10,7 @@ use Rattle.ds_cert.specs.Kept.{is_kept}
 use Rattle.ds_cert.specs.Reading.{read_delegation}
 use Rattle.ds_chain.specs.Delegated.{chain_to}
 use Rattle.ds_commands.specs.declared.reply.Reply.{Reply}
-use Rattle.ds_commands.specs.declared.reply.Reply.TheVariants.{Prints, Denies, Breaks, Spends}
+use Rattle.ds_commands.specs.declared.reply.Reply.TheVariants.{Prints, Denies, Breaks}
 use Rattle.ds_commands.specs.Lines.{bytes_in, some_bytes_in}
 use Rattle.ds_commands.specs.Words.{◌>>=◌}
 

@@ -6,7 +6,7 @@ use Rattle.lms_sig.specs.Keys.{derived_id}
 use Rattle.ds_commands.specs.declared.command.Command.{Command}
 use Rattle.ds_commands.specs.declared.command.Command.TheVariants.{Keygen, Sign, Verify, Chain}
 use Rattle.ds_commands.specs.declared.reply.Reply.{Reply}
-use Rattle.ds_commands.specs.declared.reply.Reply.TheVariants.{Prints, Denies, Breaks, Spends}
+use Rattle.ds_commands.specs.declared.reply.Reply.TheVariants.{Prints}
 use Rattle.ds_commands.specs.declared.reply.CommandFault.{CommandFault}
 use Rattle.ds_commands.specs.declared.reply.CommandFault.TheVariants.{KeeperFault, NoMemory}
 use Rattle.ds_commands.specs.Lines.{secret_alone, secret_and_message}

@@ -87,7 +87,13 @@ fn found(alloc: Global, places: Option<&[u32]>) -> Result<Reply, AllocError>
 }
 
 /// The answer about the chain to a key by these delegations.
-fn chain_of(alloc: Global, moment: u64, category: &Category, key: &PubKey, kept: &CertList) -> Result<Reply, AllocError>
+fn chain_of(
+    alloc: Global,
+    moment: u64,
+    category: &Category,
+    key: &PubKey,
+    kept: &CertList,
+) -> Result<Reply, AllocError>
     ensures { IfOk result (λ reply. reply ≡ found (chain_to kept.now.items moment category.now key.now)) }
 {
     let none = CertList::new(alloc);
@@ -108,7 +114,13 @@ fn key_missing(category: Option<Category>) -> Reply
 }
 
 /// The answer, by what the lines hold.
-fn searched(alloc: Global, moment: u64, category: Option<Category>, key: Option<PubKey>, scan: &Scan) -> Result<Reply, AllocError>
+fn searched(
+    alloc: Global,
+    moment: u64,
+    category: Option<Category>,
+    key: Option<PubKey>,
+    scan: &Scan,
+) -> Result<Reply, AllocError>
     ensures { IfOk result (λ reply. reply ≡ searched moment category key scan.now) }
 {
     if let Some(line) = scan.over {

@@ -44,7 +44,13 @@ pub(crate) fn push_number(out: &mut Vec<u8>, number: u64) -> Result<(), AllocErr
 }
 
 /// The public key, and the next leaf.
-fn key_text(alloc: Global, params: Params, index: u32, mark: u64, secret: &[u8; 32]) -> Result<Vec<u8>, AllocError>
+fn key_text(
+    alloc: Global,
+    params: Params,
+    index: u32,
+    mark: u64,
+    secret: &[u8; 32],
+) -> Result<Vec<u8>, AllocError>
     ensures { IfOk result (λ text. text.items ≡ key_text params index mark secret.now) }
 {
     let (seed, id) = derive(secret, index);
@@ -58,7 +64,14 @@ fn key_text(alloc: Global, params: Params, index: u32, mark: u64, secret: &[u8; 
 }
 
 /// The leaf, and the signature of the message at it.
-fn signature_text(alloc: Global, params: Params, index: u32, leaf: u32, secret: &[u8; 32], message: &[u8]) -> Result<Vec<u8>, AllocError>
+fn signature_text(
+    alloc: Global,
+    params: Params,
+    index: u32,
+    leaf: u32,
+    secret: &[u8; 32],
+    message: &[u8],
+) -> Result<Vec<u8>, AllocError>
     requires { leaf < leaf_count params.lms }
     ensures { IfOk result (λ text. text.items ≡ signature_text params index leaf secret.now message.now) }
 {
@@ -74,7 +87,13 @@ fn signature_text(alloc: Global, params: Params, index: u32, leaf: u32, secret: 
 }
 
 /// The answer of `keygen`.
-pub(crate) fn keygen<K: Keeper>(alloc: Global, keeper: &mut K, params: Params, index: u32, input: &[u8]) -> Result<Reply, CommandFault>
+pub(crate) fn keygen<K: Keeper>(
+    alloc: Global,
+    keeper: &mut K,
+    params: Params,
+    index: u32,
+    input: &[u8],
+) -> Result<Reply, CommandFault>
     ensures faults { K.faults keeper.old ≤ K.faults keeper.new }
     ensures ok { (now : ℕ) → IfOk result (Replied (Keygen params index) now input.now (K.tells keeper.old) (K.tells keeper.new)) }
     ensures err { IfErr result (λ e. Failed e (Keygen params index) input.now (K.faults keeper.old) (K.faults keeper.new) (K.tells keeper.old) (K.tells keeper.new)) }
@@ -96,7 +115,15 @@ pub(crate) fn keygen<K: Keeper>(alloc: Global, keeper: &mut K, params: Params, i
 
 /// The answer of `sign`, where the mark is below the number of leaves: the signature is made, then the mark is raised, and
 /// only then is the signature handed out.
-fn sign_at<K: Keeper>(alloc: Global, keeper: &mut K, params: Params, index: u32, leaf: u32, secret: &[u8; 32], message: &[u8]) -> Result<Bytes, CommandFault>
+fn sign_at<K: Keeper>(
+    alloc: Global,
+    keeper: &mut K,
+    params: Params,
+    index: u32,
+    leaf: u32,
+    secret: &[u8; 32],
+    message: &[u8],
+) -> Result<Bytes, CommandFault>
     requires { leaf < leaf_count params.lms }
     ensures faults { K.faults keeper.old ≤ K.faults keeper.new }
     ensures text { IfOk result (λ text. text ≡ signature_text params index leaf secret.now message.now) }
@@ -114,7 +141,13 @@ fn sign_at<K: Keeper>(alloc: Global, keeper: &mut K, params: Params, index: u32,
 }
 
 /// The answer of `sign`.
-pub(crate) fn sign<K: Keeper>(alloc: Global, keeper: &mut K, params: Params, index: u32, input: &[u8]) -> Result<Reply, CommandFault>
+pub(crate) fn sign<K: Keeper>(
+    alloc: Global,
+    keeper: &mut K,
+    params: Params,
+    index: u32,
+    input: &[u8],
+) -> Result<Reply, CommandFault>
     ensures faults { K.faults keeper.old ≤ K.faults keeper.new }
     ensures ok { (now : ℕ) → IfOk result (Replied (Sign params index) now input.now (K.tells keeper.old) (K.tells keeper.new)) }
     ensures err { IfErr result (λ e. Failed e (Sign params index) input.now (K.faults keeper.old) (K.faults keeper.new) (K.tells keeper.old) (K.tells keeper.new)) }

@@ -143,5 +143,9 @@ pub(crate) fn signed_message(alloc: Global, input: &[u8]) -> Result<SignedMessag
 {
     let (key, rest) = key_line(input)?;
     let (signature, message) = signature_line(alloc, rest)?;
-    Ok(SignedMessage { key, signature, message })
+    Ok(SignedMessage {
+        key,
+        signature,
+        message,
+    })
 }

@@ -48,13 +48,25 @@ fn params_of(text: &str) -> Option<Params>
     ensures { result ≡ params_in text.now }
 {
     if text == "5.3" {
-        Some(Params { lms: LmsType::H5, ots: OtsType::W4 })
+        Some(Params {
+            lms: LmsType::H5,
+            ots: OtsType::W4,
+        })
     } else if text == "5.4" {
-        Some(Params { lms: LmsType::H5, ots: OtsType::W8 })
+        Some(Params {
+            lms: LmsType::H5,
+            ots: OtsType::W8,
+        })
     } else if text == "6.3" {
-        Some(Params { lms: LmsType::H10, ots: OtsType::W4 })
+        Some(Params {
+            lms: LmsType::H10,
+            ots: OtsType::W4,
+        })
     } else if text == "6.4" {
-        Some(Params { lms: LmsType::H10, ots: OtsType::W8 })
+        Some(Params {
+            lms: LmsType::H10,
+            ots: OtsType::W8,
+        })
     } else {
         None
     }
@@ -87,7 +99,11 @@ fn alone(word: &str) -> Option<Command>
 fn timed(word: &str, moment: u64) -> Option<Command>
     ensures { result ≡ timed word.now moment }
 {
-    if word == "chain" { Some(Command::Chain(Some(moment))) } else { None }
+    if word == "chain" {
+        Some(Command::Chain(Some(moment)))
+    } else {
+        None
+    }
 }
 
 /// The command that words are: `keygen T I`, `sign T I`, `verify`, `chain` or `chain T`. T of a key is 5.3, 5.4, 6.3 or 6.4

@@ -172,4 +172,4 @@ IsDecided call marks = Unit {0}
 pub record Answers (call : Call) (now : ℕ) (marks : Option (List ℕ → ℕ)) (bytes : List ℕ) (status : Status) : Type 0 where
   pub too_long : input_limit < length bytes → (status ≡ ends.TooLong) ⊎ (status ≡ ends.NoMemory)
   pub answered : length bytes ≤ input_limit → IsDecided call marks → (mark : ℕ) → Marked marks (name_of call bytes) mark
-    → (reply : Reply) → Gives call now mark bytes reply → (status ≡ status_of reply) ⊎ (status ≡ ends.NoMemory)
+      → (reply : Reply) → Gives call now mark bytes reply → (status ≡ status_of reply) ⊎ (status ≡ ends.NoMemory)

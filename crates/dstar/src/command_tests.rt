@@ -22,7 +22,12 @@ fn texts(alloc: Global, words: &[&str]) -> Result<Vec<String>, AllocError> {
 }
 
 /// How a call with these words ends over this input and this keeper, at moment 15, and what it wrote.
-fn called(alloc: Global, keeper: &mut MemKeeper, words: &[&str], input: &[u8]) -> Result<(Status, Vec<u8>), AllocError> {
+fn called(
+    alloc: Global,
+    keeper: &mut MemKeeper,
+    words: &[&str],
+    input: &[u8],
+) -> Result<(Status, Vec<u8>), AllocError> {
     let mut source = MemSource::new(Vec::from_slice(alloc, input)?, Vec::new(alloc));
     let mut sink = MemSink::new(Vec::new(alloc), 4_096, Vec::new(alloc));
     let words = texts(alloc, words)?;
@@ -77,16 +82,35 @@ fn ends(alloc: Global, words: &[&str], input: &[u8], status: Status) -> Result<b
 #[test]
 fn faulty_words_and_lines_are_refused(rt: HostRuntime) -> Result<(), Fail> {
     let alloc = rt.alloc();
-    for words in [["keygen", "5.4", "33"], ["keygen", "5.4", "00"], ["keygen", "5.5", "0"], ["sign", "5.3", "-1"]] {
+    for words in [
+        ["keygen", "5.4", "33"],
+        ["keygen", "5.4", "00"],
+        ["keygen", "5.5", "0"],
+        ["sign", "5.3", "-1"],
+    ] {
         assert!(rt; ends(alloc, &words, SECRET, Status::Usage)?);
     }
-    assert!(rt; ends(alloc, &["chain", "18446744073709551616"], b"", Status::Usage)?);
+    assert!(rt;
+        ends(
+            alloc,
+            &["chain", "18446744073709551616"],
+            b"",
+            Status::Usage
+        )?
+    );
     let keygen = ["keygen", "5.4", "0"];
     assert!(rt; ends(alloc, &keygen, &SECRET[..63], Status::Document(12, 0))?);
     let mut lines = Vec::from_slice(alloc, SECRET)?;
     lines.extend_from_slice(b"\n\n")?;
     assert!(rt; ends(alloc, &keygen, &lines, Status::Document(12, 1))?);
-    assert!(rt; ends(alloc, &["sign", "5.4", "0"], SECRET, Status::Document(12, 0))?);
+    assert!(rt;
+        ends(
+            alloc,
+            &["sign", "5.4", "0"],
+            SECRET,
+            Status::Document(12, 0)
+        )?
+    );
     assert!(rt; ends(alloc, &["verify"], b"\n", Status::Document(12, 0))?);
     assert!(rt; ends(alloc, &["chain"], b"", Status::Document(12, 0))?);
     Ok(())
@@ -101,7 +125,11 @@ fn to_sign(alloc: Global, message: &[u8]) -> Result<Vec<u8>, AllocError> {
 }
 
 /// The signature line of `sign` over this keeper: its digits.
-fn signed(alloc: Global, keeper: &mut MemKeeper, types: &str) -> Result<(Status, Vec<u8>), AllocError> {
+fn signed(
+    alloc: Global,
+    keeper: &mut MemKeeper,
+    types: &str,
+) -> Result<(Status, Vec<u8>), AllocError> {
     let input = to_sign(alloc, b"hello")?;
     called(alloc, keeper, &["sign", types, "0"], &input)
 }
@@ -114,7 +142,12 @@ fn key_line(alloc: Global) -> Result<Vec<u8>, AllocError> {
 }
 
 /// What `verify` writes over a key's line, a signature line and a message.
-fn verified(alloc: Global, key: &[u8], signature: &[u8], message: &[u8]) -> Result<(Status, Vec<u8>), AllocError> {
+fn verified(
+    alloc: Global,
+    key: &[u8],
+    signature: &[u8],
+    message: &[u8],
+) -> Result<(Status, Vec<u8>), AllocError> {
     let mut input = Vec::from_slice(alloc, key)?;
     input.extend_from_slice(signature)?;
     input.extend_from_slice(message)?;
@@ -166,7 +199,13 @@ fn a_keeper_that_fails_hands_out_no_signature(rt: HostRuntime) -> Result<(), Fai
 }
 
 /// Whether `verify` says that this is wrong.
-fn says_bad(alloc: Global, key: &[u8], signature: &[u8], message: &[u8], name: &str) -> Result<bool, AllocError> {
+fn says_bad(
+    alloc: Global,
+    key: &[u8],
+    signature: &[u8],
+    message: &[u8],
+    name: &str,
+) -> Result<bool, AllocError> {
     let (status, written) = verified(alloc, key, signature, message)?;
     let text = format!(in alloc; "bad {name}\n")?;
     Ok(status == Status::No && written.as_slice() == text.as_bytes())
@@ -219,7 +258,14 @@ fn category_bytes(alloc: Global, creator: &TreeKey, kind: u8) -> Result<Vec<u8>,
 }
 
 /// Appends the line of a delegation of the creator's category by one key to another, valid from one moment until another.
-fn push_cert(lines: &mut Vec<u8>, creator: &TreeKey, by: &TreeKey, to: &TreeKey, from: u64, until: u64) -> Result<(), AllocError> {
+fn push_cert(
+    lines: &mut Vec<u8>,
+    creator: &TreeKey,
+    by: &TreeKey,
+    to: &TreeKey,
+    from: u64,
+    until: u64,
+) -> Result<(), AllocError> {
     let alloc = *lines.allocator();
     let mut cert = Delegation {
         category: Category {
@@ -246,7 +292,13 @@ fn chained(alloc: Global, moment: &str, lines: &[u8]) -> Result<(Status, Vec<u8>
 }
 
 /// Whether `chain` answers so.
-fn is_chain(alloc: Global, moment: &str, lines: &[u8], status: Status, text: &str) -> Result<bool, AllocError> {
+fn is_chain(
+    alloc: Global,
+    moment: &str,
+    lines: &[u8],
+    status: Status,
+    text: &str,
+) -> Result<bool, AllocError> {
     let (got, written) = chained(alloc, moment, lines)?;
     Ok(got == status && written.as_slice() == text.as_bytes())
 }
@@ -295,7 +347,9 @@ fn the_shortest_chain_is_told_unless_one_has_lapsed(rt: HostRuntime) -> Result<(
 }
 
 #[test]
-fn a_certificate_given_twice_counts_once_and_a_kind_of_two_is_no_category(rt: HostRuntime) -> Result<(), Fail> {
+fn a_certificate_given_twice_counts_once_and_a_kind_of_two_is_no_category(
+    rt: HostRuntime,
+) -> Result<(), Fail> {
     let alloc = rt.alloc();
     let (creator, key) = (tree_key(alloc, 1)?, tree_key(alloc, 2)?);
     let mut lines = first_lines(alloc, &creator, &key)?;

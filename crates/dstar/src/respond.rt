@@ -30,7 +30,13 @@ fn simulated(alloc: Global, bytes: &[u8]) -> Result<Reply, CommandFault>
 }
 
 /// The answer of a call over its whole input.
-fn reply_to<K: Keeper>(alloc: Global, call: Call, keeper: &mut K, now: u64, bytes: &[u8]) -> Result<Reply, CommandFault>
+fn reply_to<K: Keeper>(
+    alloc: Global,
+    call: Call,
+    keeper: &mut K,
+    now: u64,
+    bytes: &[u8],
+) -> Result<Reply, CommandFault>
     requires { length bytes.now ≤ input_limit }
     ensures faults { K.faults keeper.old ≤ K.faults keeper.new }
     ensures ok { IfOk result (Answered call now bytes.now (K.tells keeper.old) (K.tells keeper.new)) }

@@ -1,5 +1,4 @@
-use Rattle.std.proofs.Common.{◌≡◌, ◌∙◌, sym, ap, Option, Some, None, List, ℕ}
-use Rattle.std.specs.Option.{option_map}
+use Rattle.std.proofs.Common.{Some, None}
 use Rattle.ds_commands.proofs.Cuts.{lines_are}
 use Rattle.ds_commands.proofs.scan.first_line.Goals as goal
 

@@ -1,5 +1,5 @@
 use Rattle.std.proofs.Common.{◌≡◌, ◌≤◌, ◌+◌, length, None, []}
-use Rattle.ds_commands.specs.Chains.{Kept, lines_of, scan, scan_of}
+use Rattle.ds_commands.specs.Chains.{Kept, lines_of, scan}
 use Rattle.ds_commands.proofs.scan.scan_lines.Given as goal
 
 abbrev pub invariant-loop-rest : goal.invariant-loop-rest

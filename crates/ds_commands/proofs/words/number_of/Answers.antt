@@ -1,4 +1,4 @@
-use Rattle.std.proofs.Common.{◌≡◌, ◌∙◌, sym, ap, subst, true}
+use Rattle.std.proofs.Common.{◌≡◌, ◌∙◌, sym, true}
 use Rattle.ds_commands.specs.Words.{is_decimal}
 use Rattle.ds_commands.proofs.Numbers.{too_great}
 use Rattle.ds_commands.proofs.words.number_of.Goals as goal
