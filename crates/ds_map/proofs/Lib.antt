@@ -1,0 +1,5 @@
+pub mod Rows
+pub mod Tables
+pub mod Sets
+pub mod Bridge
+pub mod Numbers

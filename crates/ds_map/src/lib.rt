@@ -1,0 +1,16 @@
+//! A host's own numbers of categories: the table of the foreign ones, the two ways between names and numbers, and that
+//! whatever is asked of labels is answered alike over both.
+#![tactic(auto)]
+
+mod fault;
+mod laws;
+mod number;
+mod table;
+
+pub use fault::MapFault;
+pub use laws::{answers_are_the_same, labels_are_one_to_one, numbers_are_one_to_one};
+pub use number::ROW_LIMIT;
+pub use table::MapTable;
+
+#[cfg(test)]
+mod tests;
