@@ -11,3 +11,7 @@ pub record Reading (R : Type 0) : Type 0 where
 pub record Writing (W : Type 0) : Type 0 where
   pub writer : W
   pub faults : ℕ
+
+-- a keeper: the count of faults
+pub record Folder : Type 0 where
+  pub faults : ℕ

@@ -2,7 +2,7 @@
 use Rattle.std.specs.Prelude.{drop}
 use Rattle.ds_base.specs.Plans.{Plan}
 use Rattle.ds_base.specs.Memory.{Supply, CalmSupply, Output, CalmMarks, Marks, Connections}
-use Rattle.ds_base.specs.Edge.{Reading, Writing}
+use Rattle.ds_base.specs.Edge.{Reading, Writing, Folder}
 use Rattle.ds_base.specs.declared.fault_plan.FaultPlan.TheInside.{Inside as PlanFields}
 use Rattle.ds_base.specs.declared.calm_source.CalmSource.TheInside.{Inside as CalmSourceFields}
 use Rattle.ds_base.specs.declared.mem_source.MemSource.TheInside.{Inside as MemSourceFields}
@@ -12,6 +12,7 @@ use Rattle.ds_base.specs.declared.mem_keeper.MemKeeper.TheInside.{Inside as MemK
 use Rattle.ds_base.specs.declared.mem_wire.MemWire.TheInside.{Inside as MemWireFields}
 use Rattle.ds_base.specs.declared.read_source.ReadSource.TheInside.{Inside as ReadSourceFields}
 use Rattle.ds_base.specs.declared.write_sink.WriteSink.TheInside.{Inside as WriteSinkFields}
+use Rattle.ds_base.specs.declared.file_keeper.FileKeeper.TheInside.{Inside as FileKeeperFields}
 use Rattle.std.specs.Vec.Iter.{into_iter_items}
 
 abbrev pub plan_seen : PlanFields → Plan
@@ -40,3 +41,6 @@ reading_of s = record { reader = s.reader; faults = s.faults; ends = s.ends }
 
 abbrev pub writing_of : {W : Type 0} → WriteSinkFields W → Writing W
 writing_of s = record { writer = s.writer; faults = s.faults }
+
+abbrev pub folder_of : {R F D : Type 0} → FileKeeperFields R F D → Folder
+folder_of k = record { faults = k.faults }

@@ -4,8 +4,8 @@
 //! members what contracts may know of an object, and counts its faults; a call fails only where that count rose.
 //!
 //! The objects in memory are for tests and for runs that meet no outside. `MemSource`, `MemSink`, `MemKeeper` and `MemWire`
-//! fail at the calls that a list names; `CalmSource`, `CalmSink` and `CalmKeeper` never fail. `ReadSource` and `WriteSink`
-//! reach the real outside, over readers and writers of the standard library.
+//! fail at the calls that a list names; `CalmSource`, `CalmSink` and `CalmKeeper` never fail. `ReadSource`, `WriteSink`
+//! and `FileKeeper` reach the real outside, over readers, writers and files of the standard library.
 #![tactic(auto)]
 
 mod calm_keeper;
@@ -14,8 +14,10 @@ mod calm_source;
 mod clock;
 mod failed;
 mod fault_plan;
+mod file_keeper;
 mod gate;
 mod keeper;
+mod mark_text;
 mod mem_keeper;
 mod mem_sink;
 mod mem_source;
@@ -33,6 +35,7 @@ pub use calm_sink::CalmSink;
 pub use calm_source::CalmSource;
 pub use clock::{Clock, FixedClock};
 pub use failed::Failed;
+pub use file_keeper::FileKeeper;
 pub use gate::{Gate, NoGate};
 pub use keeper::Keeper;
 pub use mem_keeper::MemKeeper;

@@ -61,7 +61,7 @@ impl<R: Read + Drop> ReadSource<R> {
 }
 
 /// Reads until a read isn't interrupted.
-fn read_retrying<R: Read>(reader: &mut R, room: &mut [u8]) -> io::Result<usize>
+pub(crate) fn read_retrying<R: Read>(reader: &mut R, room: &mut [u8]) -> io::Result<usize>
     ensures bound { IfOk result (λ n. n ≤ length room.new) }
     ensures bytes { ReadConsumes (R.remaining reader.old) (R.remaining reader.new) result room.new }
 {

@@ -4,13 +4,13 @@
 ghost use Rattle.std.specs.Prelude.{◌<◌, length};
 
 use crate::{
-    CalmKeeper, CalmSink, CalmSource, Clock, Failed, FixedClock, Gate, Keeper, MemKeeper, MemSink,
-    MemSource, MemWire, NoGate, ReadSource, Sink, Source, Wire, WriteSink,
+    CalmKeeper, CalmSink, CalmSource, Clock, Failed, FileKeeper, FixedClock, Gate, Keeper,
+    MemKeeper, MemSink, MemSource, MemWire, NoGate, ReadSource, Sink, Source, Wire, WriteSink,
 };
-use std::io;
 use std::io::{ErrorKind, Read, Write};
 use std::process::Abort;
 use std::test::Fail;
+use std::{fs, io};
 
 /// One take, as what it answered and what lies in the front of the room.
 fn take<S: Source>(source: &mut S) -> (Result<usize, Failed>, u8) {
@@ -174,4 +174,50 @@ fn the_edge_retries_interrupts_and_counts_faults(rt: HostRuntime) {
 fn clocks_stand_still_and_gates_are_open(rt: HostRuntime) {
     assert_eq!(rt; shared(&FixedClock::new(5)).now(), 5);
     shared(&NoGate).pass(3);
+}
+
+/// Where the test of the keeper over files keeps them.
+const FOLDER: &str = "ds_base_marks";
+
+/// The file of the name whose bytes are all 171.
+const FILE: &str = "ds_base_marks/abababababababababababababababab";
+
+/// The mark that the keeper gives where the file holds this.
+fn mark_of(rt: HostRuntime, content: &str) -> Result<Option<u64>, Fail> {
+    fs::write(&rt, FILE, content)?;
+    let mut keeper = FileKeeper::new(rt.alloc(), rt, FOLDER)?;
+    Ok(keeper.mark(&[171; 16]).ok())
+}
+
+#[test]
+fn files_keep_marks_and_say_one_number(rt: HostRuntime) -> Result<(), Fail> {
+    let _ = fs::remove_dir_all(&rt, FOLDER);
+    let mut keeper = sent(FileKeeper::new(rt.alloc(), rt, FOLDER)?);
+    let name = [171; 16];
+    assert_eq!(rt; keeper.mark(&name), Ok(0), "no folder");
+    assert!(rt; fs::metadata(&rt, FOLDER).is_err());
+    assert_eq!(rt;
+        (keeper.raise(&name, 12), keeper.mark(&name)),
+        (Ok(()), Ok(12))
+    );
+    assert_eq!(rt;
+        (keeper.raise(&name, 3), keeper.mark(&name)),
+        (Ok(()), Ok(12))
+    );
+    assert_eq!(rt; fs::read(&rt, FILE)?.as_slice(), b"12".as_slice());
+    assert_eq!(rt; keeper.mark(&[0; 16]), Ok(0), "no file");
+    for (content, mark) in [
+        ("7\n", Some(7)),
+        ("18446744073709551615", Some(u64::MAX)),
+        ("18446744073709551616", None),
+        ("07", None),
+        ("+7", None),
+        ("7\n\n", None),
+        ("", None),
+    ] {
+        assert_eq!(rt; mark_of(rt, content)?, mark);
+    }
+    assert_eq!(rt; keeper.raise(&name, 9), Err(Failed), "no mark to raise");
+    fs::remove_dir_all(&rt, FOLDER)?;
+    Ok(())
 }

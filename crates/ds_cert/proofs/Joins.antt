@@ -1,5 +1,6 @@
 -- Pieces appended one after the other, and the same pieces nested from the end.
-use Rattle.std.proofs.Common.{◌≡◌, ℕ, List, [], ◌++◌, sym, ◌∙◌, append_assoc}
+use Rattle.std.proofs.Common.{◌≡◌, ℕ, ◌+◌, List, [], ◌++◌, length, take, sym, ◌∙◌, append_assoc}
+use Rattle.lms_sig.proofs.Pieces.{front_more}
 use Rattle.ds_cert.specs.Laws.{Takes}
 use Rattle.ds_cert.proofs.Steps.{Takes-then}
 
@@ -63,3 +64,14 @@ takes9 bytes a r0 b r1 c r2 d r3 e r4 f r5 g r6 h r7 i r8 t0 t1 t2 t3 t4 t5 t6 t
     let u1 = Takes-then r0 b r1 (c ++ (d ++ (e ++ (f ++ (g ++ (h ++ i)))))) r8 t1 u2 in
     let u0 = Takes-then bytes a r0 (b ++ (c ++ (d ++ (e ++ (f ++ (g ++ (h ++ i))))))) r8 t0 u1 in
     record { parts = u0.parts ∙ (spread9 a b c d e f g h i r8 ∙ sym (regrouped9 a b c d e f g h i r8)); rest_fits = u0.rest_fits }
+
+-- the parts of an address's signed part, as an array is filled
+pub filled_address : (a b c d e f : List ℕ) → ((((([] ++ a) ++ b) ++ c) ++ d) ++ e) ++ f ≡ a ++ (b ++ ((c ++ d) ++ (e ++ f)))
+filled_address a b c d e f = simp append_assoc
+
+-- the front of an array after one more piece, where the code writes the place and the piece otherwise
+pub front_step : (old new front piece put : List ℕ) (at i j : ℕ) → at ≡ i → put ≡ piece → take i old ≡ front → i + length piece ≡ j →
+    take (at + length put) new ≡ take at old ++ put → take j new ≡ front ++ piece
+front_step old new front piece put at i j place same before more step =
+    let here : take (i + length piece) new ≡ take i old ++ piece = rw (place, same) at step in
+    front_more old new front piece i j before more here

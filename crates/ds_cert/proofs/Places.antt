@@ -44,10 +44,10 @@ uses_front : {A : Type 0} (n : ℕ) (v : A) (bytes : List ℕ) (b : Bool) → Us
 uses_front n v bytes true = record { inside = omega arith; near = omega arith }
 uses_front n v bytes false = record { inside = omega (arith, length-drop n bytes); near = omega (arith, length-drop n bytes) }
 
-uses_number : (w : Width) (bytes : List ℕ) → Uses (byte_len w) bytes (left_of (whole bytes (number_at w bytes)))
+pub uses_number : (w : Width) (bytes : List ℕ) → Uses (byte_len w) bytes (left_of (whole bytes (number_at w bytes)))
 uses_number w bytes = uses_front (byte_len w) (from_be_bytes w (Rattle.std.proofs.Common.take (byte_len w) bytes)) bytes (ltb (length bytes) (byte_len w))
 
-uses_run : (n : ℕ) (bytes : List ℕ) → Uses n bytes (left_of (whole bytes (bytes_at n bytes)))
+pub uses_run : (n : ℕ) (bytes : List ℕ) → Uses n bytes (left_of (whole bytes (bytes_at n bytes)))
 uses_run n bytes = uses_front n (Rattle.std.proofs.Common.take n bytes) bytes (ltb (length bytes) n)
 
 tested_twice : {A : Type 0} (b c : Bool) (n : ℕ) (x : A × List ℕ) → (left_of (cond b (Err n) (cond c (Err n) (Ok x))) ≡ n) ⊎ (left_of (cond b (Err n) (cond c (Err n) (Ok x))) ≡ length x.1)
@@ -55,15 +55,15 @@ tested_twice true c n x = inl refl
 tested_twice false true n x = inl refl
 tested_twice false false n x = inr refl
 
-tested : {A : Type 0} (b : Bool) (n : ℕ) (x : A × List ℕ) → (left_of (cond b (Ok x) (Err n)) ≡ n) ⊎ (left_of (cond b (Ok x) (Err n)) ≡ length x.1)
+pub tested : {A : Type 0} (b : Bool) (n : ℕ) (x : A × List ℕ) → (left_of (cond b (Ok x) (Err n)) ≡ n) ⊎ (left_of (cond b (Ok x) (Err n)) ≡ length x.1)
 tested true n x = inr refl
 tested false n x = inl refl
 
-uses_within : (w : Width) (low high : ℕ) (bytes : List ℕ) → Uses (byte_len w) bytes (left_of (number_within w low high bytes))
+pub uses_within : (w : Width) (low high : ℕ) (bytes : List ℕ) → Uses (byte_len w) bytes (left_of (number_within w low high bytes))
 unfolding number_within
 uses_within w low high bytes = uses_tested (byte_len w) bytes (whole bytes (number_at w bytes)) (λ (n : ℕ × List ℕ). cond (ltb n.0 low) (Err (length bytes)) (cond (ltb high n.0) (Err (length bytes)) (Ok n))) (uses_number w bytes) (λ n. tested_twice (ltb n.0 low) (ltb high n.0) (length bytes) n)
 
-within_most : (w : Width) (low high : ℕ) (bytes : List ℕ) (x : ℕ × List ℕ) → number_within w low high bytes ≡ Ok x → x.0 ≤ high
+pub within_most : (w : Width) (low high : ℕ) (bytes : List ℕ) (x : ℕ × List ℕ) → number_within w low high bytes ≡ Ok x → x.0 ≤ high
 unfolding number_within
 within_most w low high bytes x e =
     let b = bind_ok (whole bytes (number_at w bytes)) (λ (n : ℕ × List ℕ). cond (ltb n.0 low) (Err (length bytes)) (cond (ltb high n.0) (Err (length bytes)) (Ok n))) x e in
@@ -71,10 +71,10 @@ within_most w low high bytes x e =
     let h = guard_err (ltb high b.0.0) (length bytes) (Ok b.0) x g.1 in
     subst (λ (y : ℕ × List ℕ). y.0 ≤ high) (ok_is b.0 x h.1) (ltb-false _ _ h.0)
 
-uses_more : (j k : ℕ) (bytes : List ℕ) (left : ℕ) → j ≤ k → Uses j bytes left → Uses k bytes left
+pub uses_more : (j k : ℕ) (bytes : List ℕ) (left : ℕ) → j ≤ k → Uses j bytes left → Uses k bytes left
 uses_more j k bytes left le u = record { inside = u.inside; near = omega (arith, u.near, le) }
 
-uses_key : (bytes : List ℕ) → Uses 56 bytes (left_of (key_at bytes))
+pub uses_key : (bytes : List ℕ) → Uses 56 bytes (left_of (key_at bytes))
 unfolding key_at
 uses_key bytes = uses_tested 56 bytes (whole bytes (bytes_at 56 bytes)) (λ (key : List ℕ × List ℕ). Ok (record { 0 = key.0 }, key.1)) (uses_run 56 bytes) (λ key. inr refl)
 
@@ -113,7 +113,7 @@ unfolding label_at
 uses_label bytes = uses_then 1 (65 * 64) bytes (number_within w8 0 64 bytes) (λ (x : ℕ × List ℕ). members_at x.0 None x.1) (uses_within w8 0 64 bytes)
     (λ x e. uses_more (65 * x.0) (65 * 64) x.1 (left_of (members_at x.0 None x.1)) (omega (arith, within_most w8 0 64 bytes x e)) (uses_members x.0 None x.1))
 
-uses_end : {A : Type 0} (x : A) (bytes : List ℕ) → Uses 0 bytes (length bytes)
+pub uses_end : {A : Type 0} (x : A) (bytes : List ℕ) → Uses 0 bytes (length bytes)
 uses_end x bytes = record { inside = omega arith; near = omega arith }
 
 pub uses_delegation : (bytes : List ℕ) → Uses (1 + (65 + (56 + (8 + (8 + (56 + (2 + 2508 + 0))))))) bytes (left_of (delegation_at bytes))

@@ -127,13 +127,13 @@ is_label = record { spelled_so = label_spelt; read_again = label_again }
 tag_is : (tag n : ℕ) → IsWithin tag tag n → n ≡ tag
 tag_is tag n w = omega (arith, w.least, w.most)
 
-is_tag : (tag : ℕ) → tag < 2 ^ 8 → IsSpelling (IsWithin tag tag) (to_be_bytes w8) (number_within w8 tag tag)
+pub is_tag : (tag : ℕ) → tag < 2 ^ 8 → IsSpelling (IsWithin tag tag) (to_be_bytes w8) (number_within w8 tag tag)
 is_tag tag lt = is_within w8 (2 ^ 8) wide8 tag tag lt
 
-tag_fits : (tag : ℕ) → IsWithin tag tag tag
+pub tag_fits : (tag : ℕ) → IsWithin tag tag tag
 tag_fits tag = record { least = omega arith; most = omega arith }
 
-tag_takes : (tag : ℕ) (bytes : List ℕ) (n : ℕ) (rest : List ℕ) → IsWithin tag tag n → Takes bytes (to_be_bytes w8 n) rest → Takes bytes (to_be_bytes w8 tag) rest
+pub tag_takes : (tag : ℕ) (bytes : List ℕ) (n : ℕ) (rest : List ℕ) → IsWithin tag tag n → Takes bytes (to_be_bytes w8 n) rest → Takes bytes (to_be_bytes w8 tag) rest
 tag_takes tag bytes n rest w t = subst (λ (k : ℕ). Takes bytes (to_be_bytes w8 k) rest) (tag_is tag n w) t
 
 is_lane : IsSpelling (IsWithin 1 32) (to_be_bytes w32) (number_within w32 1 32)

@@ -5,3 +5,4 @@ pub mod Ranges
 pub mod Reading
 pub mod Laws
 pub mod Kept
+pub mod Good

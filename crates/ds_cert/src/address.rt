@@ -1,13 +1,15 @@
 //! Address certificates.
 
-ghost use Rattle.std.specs.Prelude.{◌≡◌, ◌≤◌, ◌<◌, ◌↔◌, length, IfOk, IsTrue, Ok};
+ghost use Rattle.std.specs.Prelude.{◌≡◌, ◌+◌, ◌≤◌, ◌<◌, ◌↔◌, length, take, IfOk, IsTrue, Ok};
 ghost use Rattle.lms_sig.specs.Good.{IsGood};
 ghost use Rattle.ds_cert.specs.declared.address.Address.{Address};
 ghost use Rattle.ds_cert.specs.Fields.{Answers, Gives, alone};
+ghost use Rattle.ds_cert.specs.Good.{is_good_address};
 ghost use Rattle.ds_cert.specs.Ranges.{AddressFits, AddressRange};
 ghost use Rattle.ds_cert.specs.Reading.{address_at, read_address};
 ghost use Rattle.ds_cert.specs.Spelling.{signed_part_of_address, spelling_of_address};
 
+use crate::array::put;
 use crate::fault::{CertFault, ReadFault, at_place};
 use crate::fields::{address_text_of, byte_of, key_of, moment_of, signature_of};
 use crate::writing::{append_address_text, append_signature};
@@ -71,6 +73,17 @@ impl Address {
         Ok(verify(&self.exporter.0, part.as_slice(), self.signature.as_slice()).is_ok())
     }
 
+    /// Whether the signature is good under the key `exporter`. Takes no memory.
+    pub fn is_good(&self) -> bool
+        requires { length self.now.address ≤ 64 }
+        ensures good { IsTrue result ↔ IsGood self.now.exporter.0 (signed_part_of_address self.now) self.now.signature }
+        ensures test { result ≡ is_good_address self.now }
+    {
+        let array = self.signed_array();
+        let part = &array[..74 + self.address.len()];
+        verify(&self.exporter.0, part, self.signature.as_slice()).is_ok()
+    }
+
     /// Whether it is valid at a moment: from `from` on, and before `until`.
     pub fn valid_at(&self, moment: u64) -> bool
         ensures { IsTrue result ↔ ((self.now.from ≤ moment) × (moment < self.now.until)) }
@@ -100,6 +113,23 @@ impl Address {
             until: self.until,
             signature: self.signature.copy()?,
         })
+    }
+
+    /// The bytes before the signature's count, at the front of an array. Takes no memory.
+    #[tactic(auto, unfolding(crate::specs::Spelling::signed_part_of_address))]
+    fn signed_array(&self) -> [u8; 138]
+        requires { length self.now.address ≤ 64 }
+        ensures { take (74 + length self.now.address) result ≡ signed_part_of_address self.now }
+    {
+        let mut out = [0u8; 138];
+        let end = 58 + self.address.len();
+        put(&mut out, 0, &[2]);
+        put(&mut out, 1, &self.exporter.0);
+        put(&mut out, 57, &[self.address.len() as u8]);
+        put(&mut out, 58, self.address.as_slice());
+        put(&mut out, end, &self.from.to_be_bytes());
+        put(&mut out, end + 8, &self.until.to_be_bytes());
+        out
     }
 
     /// The bytes before the signature's count, with room for that many more.

@@ -4,10 +4,12 @@ ghost use Rattle.std.specs.Prelude.{◌≡◌, ◌≤◌, ◌<◌, ◌↔◌, le
 ghost use Rattle.lms_sig.specs.Good.{IsGood};
 ghost use Rattle.ds_cert.specs.declared.delegation.Delegation.{Delegation};
 ghost use Rattle.ds_cert.specs.Fields.{Answers, Gives, alone};
+ghost use Rattle.ds_cert.specs.Good.{is_good_delegation};
 ghost use Rattle.ds_cert.specs.Ranges.{DelegationFits, DelegationRange};
 ghost use Rattle.ds_cert.specs.Reading.{delegation_at, read_delegation};
 ghost use Rattle.ds_cert.specs.Spelling.{signed_part_of_delegation, spelling_of_delegation};
 
+use crate::array::{category_bytes, put};
 use crate::fault::{CertFault, ReadFault, at_place};
 use crate::fields::{byte_of, category_of, key_of, moment_of, signature_of};
 use crate::writing::{append_category, append_signature};
@@ -71,6 +73,14 @@ impl Delegation {
         Ok(verify(&self.by.0, part.as_slice(), self.signature.as_slice()).is_ok())
     }
 
+    /// Whether the signature is good under the key `by`. Takes no memory.
+    pub fn is_good(&self) -> bool
+        ensures good { IsTrue result ↔ IsGood self.now.by.0 (signed_part_of_delegation self.now) self.now.signature }
+        ensures test { result ≡ is_good_delegation self.now }
+    {
+        verify(&self.by.0, &self.signed_array(), self.signature.as_slice()).is_ok()
+    }
+
     /// Whether it is valid at a moment: from `from` on, and before `until`.
     pub fn valid_at(&self, moment: u64) -> bool
         ensures { IsTrue result ↔ ((self.now.from ≤ moment) × (moment < self.now.until)) }
@@ -102,6 +112,21 @@ impl Delegation {
             by: self.by,
             signature: self.signature.copy()?,
         })
+    }
+
+    /// The bytes before the signature's count. Takes no memory.
+    #[tactic(auto, unfolding(crate::specs::Spelling::signed_part_of_delegation))]
+    fn signed_array(&self) -> [u8; 194]
+        ensures { result ≡ signed_part_of_delegation self.now }
+    {
+        let mut out = [0u8; 194];
+        put(&mut out, 0, &[1]);
+        put(&mut out, 1, &category_bytes(&self.category));
+        put(&mut out, 66, &self.to.0);
+        put(&mut out, 122, &self.from.to_be_bytes());
+        put(&mut out, 130, &self.until.to_be_bytes());
+        put(&mut out, 138, &self.by.0);
+        out
     }
 
     /// The bytes before the signature's count, with room for that many more.

@@ -1,4 +1,6 @@
-//! The fields of certificates, read off the front of a slice.
+//! The fields of certificates, read off the front of a slice. Each answers the value and the rest. `Left` comes exactly where
+//! the bytes don't begin with such a field, with the number of all the bytes or, in a field behind its count, of those from the
+//! part at fault on.
 
 ghost use Rattle.std.specs.Prelude.{◌≡◌, ◌≤◌, IfOk, Some, None, MatchOption};
 ghost use Rattle.std.specs.Int.{w8, w16, w32};
@@ -137,8 +139,8 @@ pub fn category_of(bytes: &[u8]) -> Result<(Category, &[u8]), ReadFault>
     }
 }
 
-/// A run of bytes behind its count.
-fn run_of(alloc: Global, bytes: &[u8], count: usize) -> Result<(Bytes, &[u8]), ReadFault>
+/// That many bytes, copied once they are there. `NoMemory` where memory runs out.
+pub fn run_of(alloc: Global, bytes: &[u8], count: usize) -> Result<(Bytes, &[u8]), ReadFault>
     ensures { Gives (λ x. (x.0, x.1.now)) result (whole bytes.now (bytes_at count bytes.now)) }
 {
     let Ok((run, rest)) = get_bytes(bytes, count) else {

@@ -32,7 +32,8 @@ fn members_of(alloc: Global, count: u8, bytes: &[u8]) -> Result<(Label, &[u8]), 
     Ok((label, rest))
 }
 
-/// A label.
+/// A label, and the rest. `Left` comes exactly where the bytes don't begin with one, with the number of bytes from the count or
+/// the category at fault on; `NoMemory` where memory runs out.
 #[tactic(auto, unfolding(crate::specs::Reading::label_at))]
 pub fn label_of(alloc: Global, bytes: &[u8]) -> Result<(Label, &[u8]), ReadFault>
     ensures { Gives (λ x. (x.0, x.1.now)) result (label_at bytes.now) }

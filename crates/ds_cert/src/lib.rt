@@ -2,6 +2,7 @@
 #![tactic(auto)]
 
 mod address;
+mod array;
 mod cert;
 mod delegation;
 mod fault;
@@ -14,11 +15,12 @@ mod writing;
 pub use address::Address;
 pub use cert::Cert;
 pub use delegation::Delegation;
-pub use fault::CertFault;
-pub use fields::get_category;
-pub use label::{get_label, put_label};
+pub use fault::{CertFault, ReadFault, at_place};
+pub use fields::{byte_of, get_category, key_of, number_of, run_of, short_of};
+pub use label::{get_label, label_of, put_label};
 pub use lane::LaneCert;
 pub use laws::{reading_undoes_spelling, spellings_are_prefix_free};
+pub use writing::append_label;
 
 #[cfg(test)]
 mod tests;

@@ -10,7 +10,8 @@ use ds_label::{Category, Kind, Label};
 use ds_wire::{Bytes, put_u8, put_u16, put_u64};
 use std::alloc::AllocError;
 
-fn kind_number(kind: Kind) -> u8
+/// The byte that stands for a kind.
+pub fn kind_number(kind: Kind) -> u8
     ensures { result ≡ Rattle.ds_cert.specs.Spelling.kind_number kind }
 {
     match kind {
@@ -40,7 +41,7 @@ fn append_members(out: &mut Bytes, members: &[Category]) -> Result<(), AllocErro
     Ok(())
 }
 
-/// A label.
+/// A label: a count, and its categories of 65 bytes each.
 #[tactic(auto, unfolding(crate::specs::Spelling::spelling_of_label))]
 pub fn append_label(out: &mut Bytes, label: &Label) -> Result<(), AllocError>
     ensures { OnOk result (out.new ≡ out.old ++ spelling_of_label label.now) }

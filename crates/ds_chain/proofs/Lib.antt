@@ -6,3 +6,5 @@ pub mod Nearer
 pub mod Names
 pub mod Numbered
 pub mod Examples
+pub mod Stores
+pub mod Delegations

@@ -5,3 +5,6 @@ pub mod Holding
 pub mod Shortest
 pub mod Distance
 pub mod Naming
+pub mod Stored
+pub mod Delegated
+pub mod Addresses

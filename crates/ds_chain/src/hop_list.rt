@@ -6,8 +6,8 @@ ghost use Rattle.ds_chain.specs.Shortest.{shortest_chain};
 
 use crate::chain::Chain;
 use crate::hop::Hop;
+use crate::key_search::search_keys;
 use crate::numbers::number_of;
-use crate::search::search_keys;
 use ds_label::PubKey;
 use std::alloc::{AllocError, Global};
 use std::marker::Model;

@@ -1,9 +1,14 @@
-ghost use Rattle.std.specs.Prelude.{◌≡◌, ◌<◌, ◌↔◌, ℕ, Bool, List, [], ◌++◌, Option, Some, All, IsTrue, is_some, length};
+ghost use Rattle.std.specs.Prelude.{◌≡◌, ◌<◌, ◌↔◌, ℕ, Bool, List, [], ◌++◌, Option, Some, true, All, Contains, IsTrue, is_some, length};
 ghost use Rattle.ds_chain.specs.declared.hop.Hop.{Hop};
 ghost use Rattle.ds_chain.specs.Chain.{IsHop, LeadsTo, IsShortestChain};
 ghost use Rattle.ds_chain.specs.Keys.{IsSameness};
 ghost use Rattle.ds_chain.specs.Holding.{holds};
 ghost use Rattle.ds_chain.specs.Shortest.{shortest_chain};
+ghost use Rattle.ds_chain.specs.Delegated.{Delegates, chain_to, hops_of_list, key_holds};
+ghost use Rattle.ds_label.specs.declared.category.PubKey.{PubKey};
+ghost use Rattle.ds_label.specs.declared.category.Category.{Category};
+ghost use Rattle.ds_cert.specs.declared.delegation.Delegation.{Delegation};
+ghost use Rattle.ds_cert.specs.Good.{is_good_delegation};
 
 /// What holds of every list of certificates, every creator and every key: the laws of chains.
 pub fn chain_laws<K>()
@@ -35,4 +40,28 @@ pub fn chain_laws<K>()
         IsTrue (inside creator) →
         ((place : ℕ) (by to : K) → IsHop hops place by to → IsTrue (inside by) → IsTrue (inside to)) →
         (key : K) → IsTrue (holds same hops creator key) → IsTrue (inside key) }
+{}
+
+/// What holds of every list of delegations, every moment, category and key: who holds and by which chain is determined by these
+/// alone, and more is known of both.
+pub fn delegation_laws()
+    // A certificate that counts stands at a place exactly where a delegation for the category, valid and good, does.
+    ensures hop { (certs : List Delegation) (moment : ℕ) (category : Category) (place : ℕ) (by to : PubKey) →
+        IsHop (hops_of_list moment category certs) place by to ↔ Delegates certs moment category place by to }
+    // The creator holds, and its chain is empty.
+    ensures creator { (certs : List Delegation) (moment : ℕ) (category : Category) → chain_to certs moment category category.creator ≡ Some [] }
+    // A key holds exactly where there is a chain.
+    ensures led { (certs : List Delegation) (moment : ℕ) (category : Category) (key : PubKey) →
+        key_holds certs moment category key ≡ is_some (chain_to certs moment category key) }
+    // The chain is the shortest, and of these the least place by place.
+    ensures shortest { (certs : List Delegation) (moment : ℕ) (category : Category) (key : PubKey) (places : List ℕ) →
+        (chain_to certs moment category key ≡ Some places) ↔ IsShortestChain (hops_of_list moment category certs) category.creator places key }
+    // More delegations leave each holder a holder.
+    ensures kept { (certs more : List Delegation) (moment : ℕ) (category : Category) (key : PubKey) →
+        IsTrue (key_holds certs moment category key) → IsTrue (key_holds (certs ++ more) moment category key) }
+    // A set of keys that has the creator's, and with the signer of each good delegation for the category the key that it names,
+    // has every key that holds.
+    ensures closed { (certs : List Delegation) (moment : ℕ) (category : Category) (inside : PubKey → Bool) → inside category.creator ≡ true →
+        ((d : Delegation) → Contains certs d → d.category ≡ category → is_good_delegation d ≡ true → inside d.by ≡ true → inside d.to ≡ true) →
+        (key : PubKey) → key_holds certs moment category key ≡ true → inside key ≡ true }
 {}

@@ -1,20 +1,30 @@
 //! Chains of certificates. A category's creator holds it. A certificate that counts makes the key that it names a holder
 //! where the key that signed it is one. A chain is the list of certificates that leads from the creator to a holder.
+//!
+//! [`CertList`] and [`AddressList`] keep the certificates of a host, [`search`] finds the chain to a key.
 #![tactic(auto)]
 
+mod address_list;
+mod cert_list;
 mod chain;
+mod delegated;
 mod distance;
+mod fault;
 mod hop;
 mod hop_list;
+mod key_search;
 mod laws;
 mod numbers;
-mod search;
 mod walk;
 
+pub use address_list::AddressList;
+pub use cert_list::CertList;
 pub use chain::Chain;
+pub use delegated::{holds, search};
+pub use fault::{ADDRESS_LIMIT, CERT_LIMIT, ListFault};
 pub use hop::Hop;
 pub use hop_list::HopList;
-pub use laws::chain_laws;
+pub use laws::{chain_laws, delegation_laws};
 
 #[cfg(test)]
 mod tests;

@@ -1,3 +1,5 @@
+mod kept;
+
 use crate::HopList;
 use ds_label::PubKey;
 use std::alloc::{AllocError, Global};

@@ -1,6 +1,7 @@
 //! The delegations that a message carries.
 
-ghost use Rattle.std.specs.Prelude.{◌≡◌, ◌≤◌, ◌<◌, ◌++◌, [], ◌∷◌, length, OnOk, OnErr, option_copied, slice_get};
+ghost use Rattle.std.specs.Prelude.{IfOk, ◌≡◌, ◌≤◌, ◌<◌, ◌++◌, [], ◌∷◌, length, OnOk, OnErr, option_copied, slice_get};
+ghost use Rattle.ds_msg.specs.Ranges.{is_among};
 
 use ds_wire::Bytes;
 use std::alloc::{AllocError, Global};
@@ -38,6 +39,31 @@ impl CertBytes {
         ensures limit { length self.now ≤ 16 }
     {
         self.items.len()
+    }
+
+    /// The spellings.
+    pub fn as_slice(&self) -> &[Bytes]
+        ensures { result.now ≡ self.now }
+    {
+        self.items.as_slice()
+    }
+
+    /// Whether the bytes are one of them.
+    pub fn has(&self, bytes: &[u8]) -> bool
+        ensures { result ≡ is_among bytes.now self.now }
+    {
+        self.items.iter().any(|item| bytes == item.as_slice())
+    }
+
+    /// An equal list. `AllocError` where memory runs out.
+    pub fn copy(&self) -> Result<CertBytes, AllocError>
+        ensures { IfOk result (λ c. c ≡ self.now) }
+    {
+        let mut copied = CertBytes::new(*self.items.allocator());
+        for item in self.items.as_slice() {
+            copied.push(item.copy()?)?;
+        }
+        Ok(copied)
     }
 
     /// The spelling at a place, from 0.

@@ -2,9 +2,16 @@
 #![tactic(auto)]
 
 mod certs;
+mod fields;
+mod laws;
 mod local;
 mod message;
+mod writing;
 
 pub use certs::CertBytes;
+pub use laws::{messages_are_short, reading_undoes_spelling, spellings_are_prefix_free};
 pub use local::LocalMessage;
 pub use message::Message;
+
+#[cfg(test)]
+mod tests;

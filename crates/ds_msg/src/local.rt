@@ -1,7 +1,10 @@
 //! Messages inside a host.
 
+ghost use Rattle.std.specs.Prelude.{◌≡◌, IfOk};
+
 use ds_label::{LocalLabel, PubKey};
 use ds_wire::Bytes;
+use std::alloc::AllocError;
 
 /// What a mailbox keeps of a message, in its host's own numbers.
 #[derive(Debug, Drop)]
@@ -16,4 +19,19 @@ pub struct LocalMessage {
     pub clear: LocalLabel,
     /// What it says.
     pub payload: Bytes,
+}
+
+impl LocalMessage {
+    /// An equal one. `AllocError` where memory runs out.
+    pub fn copy(&self) -> Result<LocalMessage, AllocError>
+        ensures { IfOk result (λ x. x ≡ self.now) }
+    {
+        Ok(LocalMessage {
+            from: self.from,
+            label: self.label.copy()?,
+            own: self.own.copy()?,
+            clear: self.clear.copy()?,
+            payload: self.payload.copy()?,
+        })
+    }
 }

@@ -1,13 +1,16 @@
 //! The program: its words, the real input and output, and the status with which the process ends.
 #![tactic(auto)]
 
+mod call;
+#[cfg(test)]
+mod command_tests;
 mod document;
 mod input;
 mod mailbox;
 mod output;
+mod respond;
 mod run;
 mod runner;
-mod sim;
 mod status;
 #[cfg(test)]
 mod tests;
@@ -17,7 +20,7 @@ mod world;
 
 use crate::status::Status;
 use crate::top::dstar_run;
-use ds_base::{CalmKeeper, ReadSource, WriteSink};
+use ds_base::{FileKeeper, ReadSource, WriteSink};
 use std::io::ErrorKind;
 use std::process::ExitCode;
 use std::time::{SystemTime, UNIX_EPOCH};
@@ -25,11 +28,20 @@ use std::{env, io};
 
 /// What `--help` prints.
 const HELP: &str = "dstar: the exporter daemon of DStar\n\n\
-    dstar sim < DOCUMENT    runs a JSON document of hosts and prints what happened\n\
-    dstar --help            prints this\n\
-    dstar --version         prints the version\n\n\
+    dstar sim < DOCUMENT         runs a JSON document of hosts and prints what happened\n\
+    dstar keygen T I < SECRET    prints the public key of types T and index I, and its next leaf\n\
+    dstar sign T I < INPUT       signs a message at the key's next leaf; the input is a secret, a line feed, the message\n\
+    dstar verify < INPUT         says whether a signature is good; the input is a key, a line feed, a signature, a line\n\
+    \x20                            feed, the message\n\
+    dstar chain [MOMENT] < LINES prints the chain by which a key holds a category at a moment; the lines are the category,\n\
+    \x20                            the key, and delegations\n\
+    dstar --help                 prints this\n\
+    dstar --version              prints the version\n\n\
+    Secrets, keys, signatures and certificates are in hex. T is 5.3, 5.4, 6.3 or 6.4, I a number from 0 to 32. The marks of\n\
+    keys, which say which leaves are used up, are kept in the folder keep.\n\n\
     The status is 0 where all was written, 1 where the words have no form, 2 where the input failed, 3 where the output\n\
-    failed, 4 where the input is longer than 16,777,216 bytes, 5 where it is no document, 6 where memory ran out.\n";
+    failed, 4 where the input is longer than 16,777,216 bytes, 5 where it breaks a rule, 6 where memory ran out, 7 where the\n\
+    marks can't be read or raised, 8 where the key has no leaf left, 10 where the answer is no.\n";
 
 /// What `--version` prints.
 const VERSION: &str = "dstar 1\n";
@@ -86,7 +98,9 @@ fn ended(rt: &HostRuntime) -> Status {
     }
     let mut input = ReadSource::new(rt.stdin());
     let mut out = WriteSink::new(rt.stdout());
-    let mut keeper = CalmKeeper::new();
+    let Ok(mut keeper) = FileKeeper::new(rt.alloc(), *rt, "keep") else {
+        return Status::NoMemory;
+    };
     dstar_run(
         rt.alloc(),
         &words,

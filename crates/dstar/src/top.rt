@@ -1,29 +1,53 @@
 //! The top call.
 
-ghost use Rattle.std.specs.Prelude.{◌≡◌, ◌≢◌, ◌≤◌, ◌↔◌, ℕ, List, false, true, Some};
+ghost use Rattle.std.specs.Prelude.{◌≡◌, ◌≢◌, ◌≤◌, ◌↔◌, ℕ, List, false, true, Some, None};
 ghost use Rattle.ds_base.specs.Counts.{Rose};
-ghost use Rattle.dstar.specs.Causes.{Caused, Answers};
-ghost use Rattle.dstar.specs.Words.{texts, is_sim};
+ghost use Rattle.dstar.specs.declared.call.Call.{Call};
+ghost use Rattle.dstar.specs.Causes.{Caused, Answers, asks_keeper};
+ghost use Rattle.dstar.specs.Words.{texts, is_sim, call_in};
 
-use crate::sim::sim;
+use crate::call::Call;
+use crate::respond::respond;
 use crate::status::Status;
 use ds_base::{Keeper, Sink, Source};
+use ds_commands::command_of;
 use std::alloc::Global;
 
-fn is_sim(words: &Vec<String>) -> bool
-    ensures { result ≡ is_sim (texts words.now.items) }
+fn is_sim(words: &[String]) -> bool
+    ensures { result ≡ is_sim (texts words.now) }
 {
-    match words.as_slice() {
+    match words {
         [word] => word.as_str() == "sim",
         _ => false,
     }
 }
 
-/// Answers a call of the program. The words exclude the program's name; their only form is `sim`.
+/// The call that the words ask for.
+fn call_of(words: &[String]) -> Option<Call>
+    ensures { result ≡ call_in (texts words.now) }
+{
+    if is_sim(words) {
+        return Some(Call::Sim);
+    }
+    match command_of(words) {
+        Some(command) => Some(Call::Small(command)),
+        None => None,
+    }
+}
+
+/// Answers a call of the program. The words exclude the program's name; their forms are these, where T is a key's types
+/// (5.3, 5.4, 6.3 or 6.4) or a moment in seconds, and I an index from 0 to 32.
 ///
-/// `sim` reads a document from `input`, to its end and at most 16,777,217 bytes, runs it by the canonical schedule, and
-/// writes the text of the run to `out`. The keeper isn't touched. `now` is the moment, in seconds.
-#[tactic(auto, using(crate::proofs::Answering::answers))]
+/// | words | input | what is written |
+/// |---|---|---|
+/// | `sim` | a document | the text of the document's run by the canonical schedule |
+/// | `keygen T I` | a secret in hex | `key HEX` and `next Q` |
+/// | `sign T I` | a secret in hex, a line feed, a message | `q Q` and the signature in hex |
+/// | `verify` | a key and a signature in hex, a line each, and a message | `good`, or `bad NAME` |
+/// | `chain` or `chain T` | a category, a key and delegations in hex, a line each | `holds N` and the places, or `none` |
+///
+/// The input is read to its end, of which at most 16,777,217 bytes. `keygen` and `sign` look at the mark of their key's
+/// identifier; `sign` raises it past the leaf that it used before anything is written. `now` is the present moment.
 pub fn dstar_run<R: Source, W: Sink, K: Keeper>(
     alloc: Global,
     words: &Vec<String>,
@@ -32,13 +56,14 @@ pub fn dstar_run<R: Source, W: Sink, K: Keeper>(
     keeper: &mut K,
     now: u64,
 ) -> Status
-    // Usage comes exactly where the words have no form; nothing was read then, and nothing was written.
-    ensures usage { result ≡ Status.Usage ↔ (is_sim (texts words.now.items) ≡ false) }
-    ensures unused { result ≡ Status.Usage → (input.new ≡ input.old) × (out.new ≡ out.old) }
-    ensures kept { keeper.new ≡ keeper.old }
+    // Usage comes exactly where the words have no form; nothing was read then, nothing written, and the keeper not touched.
+    ensures usage { result ≡ Status.Usage ↔ (call_in (texts words.now.items) ≡ None) }
+    ensures unused { result ≡ Status.Usage → (input.new ≡ input.old) × (out.new ≡ out.old) × (keeper.new ≡ keeper.old) }
+    // Only `keygen` and `sign` touch the keeper.
+    ensures kept { (call : Call) → call_in (texts words.now.items) ≡ Some call → asks_keeper call ≡ false → keeper.new ≡ keeper.old }
 
     // Each other status has its cause.
-    ensures caused { result ≢ Status.Usage → Caused (record {
+    ensures caused { (call : Call) → call_in (texts words.now.items) ≡ Some call → Caused call now (record {
       told = R.tells input.old;
       left = R.tells input.new;
       read_faults = R.faults input.old;
@@ -49,18 +74,22 @@ pub fn dstar_run<R: Source, W: Sink, K: Keeper>(
       written_after = W.tells out.new;
       write_faults = W.faults out.old;
       write_faults_after = W.faults out.new;
+      marks = K.tells keeper.old;
+      marks_after = K.tells keeper.new;
+      keeper_faults = K.faults keeper.old;
+      keeper_faults_after = K.faults keeper.new;
     }) result }
-    // Where the input tells its bytes and no count rose, the bytes alone decide, unless memory ran out.
-    ensures answers { is_sim (texts words.now.items) ≡ true → (bytes : List ℕ) → R.tells input.old ≡ Some bytes
+    // Where the input tells its bytes and no count rose, the bytes alone decide, and for `sign` the mark, unless memory ran out.
+    ensures answers { (call : Call) → call_in (texts words.now.items) ≡ Some call → (bytes : List ℕ) → R.tells input.old ≡ Some bytes
         → ¬ Rose (R.faults input.old) (R.faults input.new) → ¬ Rose (W.faults out.old) (W.faults out.new)
-        → Answers bytes result }
+        → ¬ Rose (K.faults keeper.old) (K.faults keeper.new) → Answers call now (K.tells keeper.old) bytes result }
     ensures read_faults { R.faults input.old ≤ R.faults input.new }
     ensures ends { R.ends input.old ≤ R.ends input.new }
     ensures write_faults { W.faults out.old ≤ W.faults out.new }
+    ensures keeper_faults { K.faults keeper.old ≤ K.faults keeper.new }
 {
-    if is_sim(words) {
-        sim(alloc, input, out)
-    } else {
-        Status::Usage
+    match call_of(words.as_slice()) {
+        Some(call) => respond(alloc, call, input, out, keeper, now),
+        None => Status::Usage,
     }
 }

@@ -1,0 +1,5 @@
+pub mod Words
+pub mod Lines
+pub mod Replies
+pub mod Chains
+pub mod Outcome

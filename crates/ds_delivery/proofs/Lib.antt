@@ -1,0 +1,13 @@
+pub mod Lists
+pub mod Asks
+pub mod Conns
+pub mod Pasts
+pub mod Afters
+pub mod Kept
+pub mod Arrivals
+pub mod KeptConns
+pub mod Runs
+pub mod Delivered
+pub mod Puts
+pub mod Checks
+pub mod Example

@@ -1,0 +1,5 @@
+pub mod Premises
+pub mod Delivered
+pub mod Puts
+pub mod Checked
+pub mod Example
