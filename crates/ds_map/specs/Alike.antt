@@ -15,6 +15,14 @@ use Rattle.ds_map.specs.Labels.{has_name, name_of, named, numbered, have_names, 
 abbrev pub UnderEachTable : (PubKey → List Category → Type 0) → Type 0
 UnderEachTable P = (here : PubKey) (rows : List Category) → IsTable here rows → P here rows
 
+-- where a table of this host has names for the numbers of these labels, it is so for the labels of their names
+abbrev pub UnderTables : PubKey → List (List ℕ) → ((List ℕ → List Category) → Type 0) → Type 0
+UnderTables here labels P = (rows : List Category) → IsTable here rows → IsTrue (have_names here rows labels) → P (named here rows)
+
+-- where a table of any host has them
+abbrev pub UnderNames : List (List ℕ) → ((List ℕ → List Category) → Type 0) → Type 0
+UnderNames labels P = (here : PubKey) → UnderTables here labels P
+
 -- a known category's number has its name, and a number's name has that number, and its kind
 pub record IsOneToOne (here : PubKey) (rows : List Category) : Type 0 where
   pub number : (c : Category) → IsTrue (is_known here rows c) → to_name here rows (number_of here rows c) ≡ Some c

@@ -9,7 +9,7 @@ mod table;
 
 pub use fault::MapFault;
 pub use laws::{answers_are_the_same, labels_are_one_to_one, numbers_are_one_to_one};
-pub use number::ROW_LIMIT;
+pub use number::{ROW_LIMIT, home_number};
 pub use table::MapTable;
 
 #[cfg(test)]

@@ -1,7 +1,7 @@
 //! Numbers of home categories and of rows.
 
 ghost use Rattle.std.specs.Prelude.{◌≡◌, ◌+◌, ◌*◌, ◌^◌, ◌<◌};
-ghost use Rattle.ds_model.specs.Mapping.{is_home as is_home_of, kind_number, kind_of as kind_of_number};
+ghost use Rattle.ds_model.specs.Mapping.{is_home as is_home_of, home_number as home_number_of, kind_number, kind_of as kind_of_number};
 
 use ds_label::{Category, Kind, PubKey};
 
@@ -21,10 +21,10 @@ pub fn is_home(here: &PubKey, name: &Category) -> bool
     name.creator == *here && name.number < HOME_LIMIT
 }
 
-/// The number of a home category.
+/// The local number of a home category: twice its number, and 1 more for integrity. It needs a number below 2^62.
 pub fn home_number(name: &Category) -> u64
     requires { name.now.number < 2 ^ 62 }
-    ensures { result ≡ 2 * name.now.number + kind_number name.now.kind }
+    ensures { result ≡ home_number_of name.now }
 {
     2 * name.number + parity(name.kind)
 }

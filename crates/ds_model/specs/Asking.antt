@@ -17,7 +17,7 @@ use Rattle.ds_msg.specs.declared.message.Message.{Message}
 use Rattle.ds_model.specs.Keys.{same_key, key_of}
 use Rattle.ds_model.specs.FirstRule.{unless, first_rule}
 use Rattle.ds_model.specs.ProcessRules.{may_send, may_take, may_relabel, may_publish, may_make, can_grant, mailbox_rule}
-use Rattle.ds_model.specs.Mapping.{is_known}
+use Rattle.ds_model.specs.Mapping.{is_known, next_category}
 use Rattle.ds_model.specs.ExporterRules.{known_rule}
 use Rattle.ds_model.specs.Plan.{HostPlan, box_plan}
 use Rattle.ds_model.specs.Desk.{Act, Delegating, Importing, Mapping, Reply, Done, Made, Local, Refuse}
@@ -143,9 +143,9 @@ abbrev pub relabel : Process → List Category → Option Rule → Ask
 relabel x label (Some rule) = refused rule x
 relabel x label None = Alone (noted (notes.SetLabel label) (record x { label = label }))
 
--- the category that the process makes next: its number is made of the process's number and of how many it made
+-- the category that the process makes next
 abbrev pub new_category : HostPlan → (proc : ℕ) → Process → Kind → Category
-new_category plan p x kind = record { creator = plan.key; kind = kind; number = p * 2 ^ 32 + x.made }
+new_category plan p x kind = next_category plan.key p x.made kind
 
 -- a made category is owned and usable
 abbrev pub make : Process → Category → Option Rule → Ask

@@ -30,6 +30,14 @@ abbrev pub kind_number : Kind → ℕ
 kind_number Secrecy = 0
 kind_number Integrity = 1
 
+-- the number of a home category
+abbrev pub home_number : Category → ℕ
+home_number c = 2 * c.number + kind_number c.kind
+
+-- the category that a process makes next: its number is made of the process's number and of how many it made
+abbrev pub next_category : PubKey → (proc made : ℕ) → Kind → Category
+next_category here proc made kind = record { creator = here; kind = kind; number = proc * 2 ^ 32 + made }
+
 -- the category's first row, or the next row where it has none
 abbrev pub row_of : Category → List Category → ℕ
 row_of c [] = 0
@@ -37,7 +45,7 @@ row_of c (d ∷ rows) = if same_category c d then 0 else suc (row_of c rows)
 
 -- the number that the category has on the host, or would get
 abbrev pub number_of : PubKey → List Category → Category → ℕ
-number_of here rows c = if is_home here c then 2 * c.number + kind_number c.kind else 2 ^ 63 + 2 * row_of c rows + kind_number c.kind
+number_of here rows c = if is_home here c then home_number c else 2 ^ 63 + 2 * row_of c rows + kind_number c.kind
 
 -- the number of a known category
 abbrev pub to_number : PubKey → List Category → Category → Option ℕ
