@@ -44,6 +44,6 @@ for name, count, nanos in seen:
         print(f"{name} {types}: {each / 1e6:.3f} ms, {1e9 / each:.0f} a second, {work} compressions, "
               f"{100 * work * plain / each:.0f} % of the plain loop's rate")
     if name == "search":
-        print(f"search in 256 certificates: {int(nanos) / 200 / 1e6:.3f} ms ({count} of 200 answers right)")
+        print(f"search in 256 delegations, one line: {int(nanos) / 200 / 1e6:.3f} ms ({count} of 200 answers right)")
     if name == "good" and int(count) != 200:
         sys.exit("a signature was refused")
