@@ -13,11 +13,11 @@ use Rattle.ds_cert.specs.Spelling.{kind_number, spelling_of_category}
 use Rattle.ds_cert.specs.Laws.{Takes}
 use Rattle.ds_cert.proofs.Steps.{takes, Takes-then}
 
-some_ok : {A B : Type 0} (o : Option A) (f : A → Option B) (y : B) → (o >>= f) ≡ Some y → (x : A) × (o ≡ Some x) × (f x ≡ Some y)
+pub some_ok : {A B : Type 0} (o : Option A) (f : A → Option B) (y : B) → (o >>= f) ≡ Some y → (x : A) × (o ≡ Some x) × (f x ≡ Some y)
 some_ok (Some x) f y e = (x, refl, e)
 some_ok None f y e = absurd cc
 
-some_is : {A B : Type 0} (o : Option A) (f : A → Option B) (x : A) (y : Option B) → o ≡ Some x → f x ≡ y → (o >>= f) ≡ y
+pub some_is : {A B : Type 0} (o : Option A) (f : A → Option B) (x : A) (y : Option B) → o ≡ Some x → f x ≡ y → (o >>= f) ≡ y
 some_is o f x y p q = ap (λ (s : Option _). s >>= f) p ∙ q
 
 kind_is : (n : ℕ) (kind : Kind) → kind_from n ≡ Some kind → n ≡ kind_number kind

@@ -9,9 +9,9 @@ use Rattle.ds_cert.specs.declared.fault.CertFault.{CertFault}
 use Rattle.ds_cert.specs.declared.fault.CertFault.TheVariants as cert_faults
 
 infixl 10 ◌>>=◌
-abbrev pub ◌>>=◌ : {A B : Type 0} → Result A ℕ → (A → Result B ℕ) → Result B ℕ
+abbrev pub ◌>>=◌ : {A B E : Type 0} → Result A E → (A → Result B E) → Result B E
 (Ok x) >>= f = f x
-(Err left) >>= f = Err left
+(Err e) >>= f = Err e
 
 -- one field: the fault is the whole field's
 abbrev pub whole : {A : Type 0} → List ℕ → Option (A × List ℕ) → Result (A × List ℕ) ℕ

@@ -8,7 +8,7 @@ pub record Takes (bytes text rest : List ℕ) : Type 0 where
   pub rest_fits : IsBytes rest
 
 -- What is read is spelled so, each byte of it, and what is spelled so is read again, whatever follows.
-pub record IsSpelling {A : Type 0} (Fits : A → Type 0) (spelling : A → List ℕ) (reading : List ℕ → Result (A × List ℕ) ℕ) : Type 0 where
+pub record IsSpelling {A E : Type 0} (Fits : A → Type 0) (spelling : A → List ℕ) (reading : List ℕ → Result (A × List ℕ) E) : Type 0 where
   pub spelled_so : (bytes : List ℕ) (x : A) (rest : List ℕ) → IsBytes bytes → reading bytes ≡ Ok (x, rest) → Takes bytes (spelling x) rest × Fits x
   pub read_again : (x : A) (rest : List ℕ) → Fits x → reading (spelling x ++ rest) ≡ Ok (x, rest)
 
