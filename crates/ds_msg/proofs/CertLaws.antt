@@ -3,17 +3,17 @@ use Rattle.std.proofs.Common.{◌≡◌, ℕ, zero, suc, ◌^◌, ◌≤◌, Boo
 use Rattle.std.specs.Prelude.{Result, Ok, Err}
 use Rattle.std.specs.Int.{w8, w16, to_be_bytes}
 use Rattle.std.specs.List.{flat_map, AllByRecursion}
-use Rattle.std.proofs.lemmas.List.{append-nil, take_at}
+use Rattle.std.proofs.lemmas.List.{append-nil}
 use Rattle.std.proofs.lemmas.List.Concat.{flat_map-cons}
 use Rattle.ds_wire.specs.Fields.{IsBytes, bytes_at}
-use Rattle.ds_wire.proofs.FieldLaws.{wide8, wide16, IsBytes-take}
+use Rattle.ds_wire.proofs.FieldLaws.{wide8, wide16}
 use Rattle.ds_cert.specs.declared.delegation.Delegation.{Delegation}
 use Rattle.ds_cert.specs.Fields.{◌>>=◌, whole, number_within, placed}
 use Rattle.ds_cert.specs.Laws.{Takes, IsSpelling}
 use Rattle.ds_cert.specs.Ranges.{DelegationFits}
 use Rattle.ds_cert.specs.Reading.{delegation_at, read_delegation}
 use Rattle.ds_cert.specs.Spelling.{spelling_of_delegation, signed_part_of_delegation}
-use Rattle.ds_cert.proofs.Steps.{bind_ok, bind_is, guard_ok, ok_is, Takes-then, reads}
+use Rattle.ds_cert.proofs.Steps.{IsBytes-front, bind_ok, bind_is, guard_ok, ok_is, Takes-then, reads}
 use Rattle.ds_cert.proofs.FieldLaws.{IsWithin, is_within, run_spelt, run_again}
 use Rattle.ds_cert.proofs.RecordLaws.{is_delegation}
 use Rattle.ds_cert.proofs.Places.{Uses, left_of, uses_delegation}
@@ -25,9 +25,6 @@ use Rattle.ds_msg.specs.Spelling.{spelling_of_cert_bytes, spelling_of_certs}
 use Rattle.ds_msg.proofs.Distinct.{AreNew, distinct_from_new, all_new}
 
 -- ---- one certificate
-
-pub IsBytes-front : (bytes text rest : List ℕ) → IsBytes bytes → bytes ≡ text ++ rest → IsBytes text
-IsBytes-front bytes text rest fits e = subst IsBytes (take_at text rest (length text) refl) (IsBytes-take (length text) (text ++ rest) (subst IsBytes e fits))
 
 spells_read : (bytes : List ℕ) (r : Result Delegation ℕ) → IsBytes bytes → read_delegation bytes ≡ r → is_read r ≡ true → SpellsDelegation bytes
 unfolding read_delegation
@@ -90,7 +87,7 @@ cert_spelt before bytes cert rest fits e =
     let b = bind_ok (whole behind (bytes_at count behind)) (λ (x : List ℕ × List ℕ). cond (is_new_delegation before x.0) (Ok x) (Err (length behind))) (cert, rest) later in
     let g = guard_ok (is_new_delegation before b.0.0) (length behind) (Ok b.0) (cert, rest) b.2 in
     let u = run_spelt behind count b.0.0 b.0.1 t.rest_fits b.1 in
-    let new = new_spelt before b.0.0 (IsBytes-front behind b.0.0 b.0.1 t.rest_fits u.0.parts) g.0 in
+    let new = new_spelt before b.0.0 (IsBytes-front b.0.0 b.0.1 (subst IsBytes u.0.parts t.rest_fits)) g.0 in
     subst (λ (x : List ℕ × List ℕ). Takes bytes (to_be_bytes w16 (length x.0) ++ x.0) x.1 × IsNew before x.0) (ok_is b.0 (cert, rest) g.1)
     (subst (λ (n : ℕ). Takes bytes (to_be_bytes w16 n ++ b.0.0) b.0.1) (sym u.1) (Takes-then bytes (to_be_bytes w16 count) behind b.0.0 b.0.1 t u.0), new))
 

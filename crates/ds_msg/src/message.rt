@@ -1,6 +1,6 @@
 //! Messages between exporters.
 
-ghost use Rattle.std.specs.Prelude.{◌≡◌, IfOk, Ok};
+ghost use Rattle.std.specs.Prelude.{◌≡◌, ◌≤◌, length, IfOk, Ok};
 ghost use Rattle.ds_cert.specs.Fields.{Answers, Gives, alone};
 ghost use Rattle.ds_msg.specs.declared.message.Message.{Message};
 ghost use Rattle.ds_msg.specs.Ranges.{MessageFits, MessageRange};
@@ -10,7 +10,9 @@ ghost use Rattle.ds_msg.specs.Spelling.{spelling_of_message};
 use crate::certs::CertBytes;
 use crate::fields::{certs_of, payload_of, slot_of};
 use crate::writing::{append_certs, append_payload};
-use ds_cert::{CertFault, ReadFault, append_label, at_place, byte_of, key_of, label_of};
+use ds_cert::{
+    CertFault, ReadFault, append_label, at_place, byte_of, key_of, label_of, show_key, show_label,
+};
 use ds_label::{Label, PubKey};
 use ds_wire::{Bytes, put_u8, put_u32};
 use std::alloc::{AllocError, Global};
@@ -38,8 +40,10 @@ impl Message {
     /// The one spelling, at most 72,229 bytes. `AllocError` where memory runs out.
     pub fn encode(&self) -> Result<Bytes, AllocError>
         requires { MessageRange self.now }
-        ensures { IfOk result (λ b. b ≡ spelling_of_message self.now) }
+        ensures spelled { IfOk result (λ b. b ≡ spelling_of_message self.now) }
+        ensures short { IfOk result (λ b. length b ≤ 72229) }
     {
+        self.show_fits();
         let members = self.label.len() + self.own.len() + self.clear.len();
         let room = 69 + 65 * members + 2706 * self.certs.len() + self.payload.len();
         let mut out = Bytes::with_room(self.payload.allocator(), room)?;
@@ -66,6 +70,18 @@ impl Message {
         ensures exact { Answers (λ y. y) result (read_message input.now) }
     {
         read(alloc, input)
+    }
+
+    /// Does nothing. Its contract is for proofs that use the laws: with certificates and a payload in range all fields are.
+    pub fn show_fits(&self)
+        requires { MessageRange self.now }
+        ensures { MessageFits self.now }
+    {
+        show_key(&self.to);
+        let _slot = self.slot;
+        show_label(&self.label);
+        show_label(&self.own);
+        show_label(&self.clear);
     }
 
     /// An equal one. `AllocError` where memory runs out.

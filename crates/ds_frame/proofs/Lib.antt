@@ -1,0 +1,11 @@
+pub mod FieldLaws
+pub mod Steady
+pub mod SteadyItems
+pub mod Pieces
+pub mod ItemLaws
+pub mod Offsets
+pub mod OuterLaws
+pub mod BodyLaws
+pub mod Goods
+pub mod Lengths
+pub mod Written

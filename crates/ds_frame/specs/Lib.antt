@@ -1,0 +1,10 @@
+pub mod Causes
+pub mod Spelling
+pub mod Ranges
+pub mod Fields
+pub mod Outer
+pub mod Bodies
+pub mod Checks
+pub mod Reader
+pub mod Streams
+pub mod Laws

@@ -1,0 +1,105 @@
+//! A reader of a stream that comes in pieces.
+
+ghost use Rattle.std.specs.Prelude.{◌≡◌, ◌≤◌, ◌+◌, drop, length, IfOk, None, OnOk, OnErr, Some};
+ghost use Rattle.ds_frame.specs.Laws.{StartsWith};
+ghost use Rattle.ds_frame.specs.Reader.{Answered, fed, lane_after, new_reader};
+
+use crate::cause::Cause;
+use crate::item::{Failure, Halt, Item, ReadEnd};
+use crate::reading::item_of;
+use ds_cert::LaneCert;
+use std::alloc::{AllocError, Global};
+use std::marker::Model;
+
+/// Reads a stream's items off its bytes, in whatever pieces they come. Contracts see the bytes that are not handed out yet, how
+/// many there are before them, the lane certificate once the hello was handed out, and the failure once the stream broke.
+#[derive(Debug, Drop)]
+pub struct FrameReader {
+    // All bytes so far, and where those that are not handed out yet begin.
+    bytes: Vec<u8>,
+    at: usize,
+    lane: Option<LaneCert>,
+    failure: Option<Failure>,
+}
+
+impl Model for FrameReader {
+    ghost use Rattle.std.specs.Prelude.{◌≤◌, drop, length};
+    ghost use Rattle.ds_frame.specs.Reader.{Reader};
+
+    ghost Value = { Reader };
+
+    ghost view = { λ r. record { rest = drop r.at r.bytes.items; passed = r.at; lane = r.lane; failure = r.failure } };
+
+    ghost invariant = { λ r. r.at ≤ length r.bytes.items };
+}
+
+impl FrameReader {
+    /// A reader of a stream of which nothing has come. Takes no memory.
+    pub fn new(alloc: Global) -> FrameReader
+        ensures { result ≡ new_reader }
+    {
+        FrameReader {
+            bytes: Vec::new(alloc),
+            at: 0,
+            lane: None,
+            failure: None,
+        }
+    }
+
+    /// Takes the next bytes of the stream. After `AllocError`, which says that memory ran out, nothing changed.
+    pub fn feed(&mut self, piece: &[u8]) -> Result<(), AllocError>
+        ensures ok { OnOk result (self.new ≡ fed piece.now self.old) }
+        ensures err { OnErr result (self.new ≡ self.old) }
+    {
+        self.bytes.extend_from_slice(piece)
+    }
+
+    /// The next item of the stream. `NotYet` comes exactly where it isn't whole and each field of it that is whole is in range;
+    /// `BadFrame` exactly where it breaks the stream, with the first cause and its place, and from then on for ever. After
+    /// `NoMemory`, which says that memory ran out, nothing changed.
+    pub fn next(&mut self) -> Result<Item, ReadEnd>
+        // What the definition says of the bytes at hand.
+        ensures exact { Answered self.old result self.new }
+        // The bytes at hand are the item's spelling, signed as it must be, and the rest.
+        ensures starts { IfOk result (λ item. StartsWith self.old.lane item self.old.rest self.new.rest) }
+    {
+        if let Some(failure) = self.failure {
+            return Err(ReadEnd::BadFrame(failure.cause, failure.place));
+        }
+        match item_of(*self.bytes.allocator(), &self.lane, &self.bytes[self.at..]) {
+            Ok((item, size)) => {
+                if self.pass(&item, size).is_err() {
+                    return Err(ReadEnd::NoMemory);
+                }
+                Ok(item)
+            }
+            Err(Halt::Open) => Err(ReadEnd::NotYet),
+            Err(Halt::NoMemory) => Err(ReadEnd::NoMemory),
+            Err(Halt::Broken(cause, offset)) => Err(self.fail(cause, offset)),
+        }
+    }
+
+    /// Passes an item of that many bytes.
+    fn pass(&mut self, item: &Item, size: usize) -> Result<(), AllocError>
+        requires { size ≤ length self.old.rest }
+        ensures ok { OnOk result (self.new ≡ record self.old { rest = drop size self.old.rest; passed = self.old.passed + size; lane = lane_after item.now self.old.lane }) }
+        ensures err { OnErr result (self.new ≡ self.old) }
+    {
+        if let Item::Hello(lane) = item {
+            self.lane = Some(lane.copy()?);
+        }
+        self.at += size;
+        Ok(())
+    }
+
+    /// Fails at that many bytes behind the front, for ever.
+    fn fail(&mut self, cause: Cause, offset: usize) -> ReadEnd
+        requires { offset ≤ length self.old.rest }
+        ensures failed { self.new ≡ record self.old { failure = Some (record { cause = cause; place = self.old.passed + offset }) } }
+        ensures end { result ≡ ReadEnd.BadFrame cause (self.old.passed + offset) }
+    {
+        let place = (self.at + offset) as u64;
+        self.failure = Some(Failure { cause, place });
+        ReadEnd::BadFrame(cause, place)
+    }
+}
