@@ -1,11 +1,13 @@
 -- A desk that is one entry longer.
-use Rattle.std.proofs.Common.{◌≡◌, ℕ, ◌<◌, List, [], ◌∷◌, true, Some, refl, sym, ap, ◌∙◌}
+use Rattle.std.proofs.Common.{◌≡◌, ℕ, ◌<◌, List, [], ◌∷◌, Bool, true, false, Option, Some, None, refl, sym, ap, ◌∙◌, arith}
+use Rattle.ds_label.specs.declared.rule.Rule.{Rule}
+use Rattle.ds_model.specs.FirstRule.{unless, first_rule}
 use Rattle.ds_script.specs.declared.actor.Actor.{Actor}
 use Rattle.ds_script.specs.Replay.{onward, last_of}
 use Rattle.ds_script.proofs.Replays.{replay-push, rises-push}
 use Rattle.ds_model.specs.Scheme.{Scheme}
 use Rattle.ds_model.specs.Plan.{HostPlan}
-use Rattle.ds_model.specs.Desk.{Desk, desk_after, desk_needs, desk_step, Ticked, Delegated, Imported, Mapped, Looked, Denied, DeskEntry as Change}
+use Rattle.ds_model.specs.Desk.{Desk, desk_after, desk_needs, desk_step, Ticked, Delegated, Imported, Mapped, Looked, Denied, is_none, DeskEntry as Change}
 use Rattle.ds_desk.specs.Signing.{desk_scheme, desk_plan}
 use Rattle.ds_desk.specs.Desks.{Kept, IsReplay, MayStand, change_of, act_of, entry_of, stamp_of, history_step, entered}
 
@@ -33,3 +35,14 @@ grown k stamp who change is later may =
       signer = is.signer;
       table = is.table;
     }
+
+-- a test that breaks no rule passes
+pub passes : (test : Bool) (rule : Rule) → unless test rule ≡ None → test ≡ true
+passes true rule e = refl
+passes false rule e = absurd (grind arith)
+
+-- where two rules hold, the second does
+pub second_holds : (one two : Bool) (first second : Rule) → first_rule (unless one first ∷ unless two second ∷ []) ≡ None → is_none (unless two second) ≡ true
+second_holds true true first second e = refl
+second_holds true false first second e = absurd (grind arith)
+second_holds false two first second e = absurd (grind arith)

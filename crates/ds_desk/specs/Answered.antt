@@ -1,10 +1,11 @@
 -- What a public act answers.
-use Rattle.std.specs.Prelude.{◌≡◌, ℕ, Result, Ok, Err}
+use Rattle.std.specs.Prelude.{◌≡◌, ℕ, Option, Some, None, Result, Ok, Err}
 use Rattle.ds_script.specs.declared.actor.Actor.{Actor}
 use Rattle.ds_label.specs.declared.rule.Rule.{Rule}
+use Rattle.ds_cert.specs.declared.cert.Cert.{Cert}
 use Rattle.ds_model.specs.Scheme.{Scheme}
 use Rattle.ds_model.specs.Plan.{HostPlan}
-use Rattle.ds_model.specs.Desk.{Act, Reply, Refuse, act_entry, reply_of, DeskEntry as Change}
+use Rattle.ds_model.specs.Desk.{Act, Reply, Refuse, act_entry, import_entry, reply_of, DeskEntry as Change}
 use Rattle.ds_desk.specs.declared.fault.EntryFault.{EntryFault}
 use Rattle.ds_desk.specs.declared.fault.EntryFault.TheVariants as entry_faults
 use Rattle.ds_desk.specs.declared.fault.DeskFault.{DeskFault}
@@ -18,6 +19,13 @@ entry_for s plan k act = act_entry (desk_scheme s) (desk_plan plan k.here k.key)
 
 abbrev pub reply_for : Scheme → HostPlan → Kept → Act → Reply
 reply_for s plan k act = reply_of (desk_scheme s) (desk_plan plan k.here k.key) k.desk (entry_for s plan k act)
+
+-- the same of an import, by the certificate that its bytes spell
+abbrev pub import_for : Scheme → Kept → Option Cert → Change
+import_for s k read = import_entry (desk_scheme s) k.desk read
+
+abbrev pub reply_to : Scheme → HostPlan → Kept → Option Cert → Reply
+reply_to s plan k read = reply_of (desk_scheme s) (desk_plan plan k.here k.key) k.desk (import_for s k read)
 
 -- The answer is the model's; where memory ran out it is none.
 abbrev pub Answers : {A : Type 0} → (A → Reply) → Result A EntryFault → Reply → Type 0
@@ -43,3 +51,9 @@ EntersOver (Ok a) old after new = new ≡ after
 EntersOver (Err (desk_faults.Refused rule)) old after new = new ≡ after
 EntersOver (Err desk_faults.KeeperFault) old after new = new ≡ old
 EntersOver (Err desk_faults.NoMemory) old after new = new ≡ old
+
+-- A rule that fails is the answer; where none fails the call is done, unless memory runs out.
+abbrev pub Ruled : {A : Type 0} → Result A EntryFault → Option Rule → Type 0
+Ruled (Ok a) rule = rule ≡ None
+Ruled (Err (entry_faults.Refused refused)) rule = rule ≡ Some refused
+Ruled (Err entry_faults.NoMemory) rule = Unit {0}

@@ -2,11 +2,12 @@
 #![tactic(auto)]
 
 ghost use Rattle.std.specs.Prelude.{◌≡◌, ◌<◌, OnOk, OnErr, max};
-ghost use Rattle.ds_model.specs.Desk.{Ticked, Looked};
-ghost use Rattle.ds_desk.specs.Desks.{IsKept, MayStand, kept_of, last_stamp, entered, change_of};
+ghost use Rattle.ds_model.specs.Desk.{Ticked, Looked, Denied};
+ghost use Rattle.ds_desk.specs.Desks.{IsKept, MayStand, kept_of, last_stamp, entered};
 
 use crate::act::{DeskAct, DeskEntry};
 use crate::state::DeskState;
+use ds_label::Rule;
 use ds_script::Actor;
 use std::alloc::AllocError;
 
@@ -37,6 +38,19 @@ impl DeskState {
         ensures kept { IsKept self.new }
     {
         let act = DeskAct::Look;
+        self.history.enter(DeskEntry { stamp, who, act });
+    }
+
+    /// Enters that a rule refused a call. It takes no memory.
+    pub(crate) fn refuse(&mut self, stamp: u64, who: Actor, rule: Rule)
+        requires kept { IsKept self.old }
+        requires later { last_stamp self.old < stamp }
+        requires room { 0 < self.old.history.spare }
+        requires may { MayStand (kept_of self.old) (Denied rule) }
+        ensures entry { kept_of self.new ≡ entered stamp who (Denied rule) (kept_of self.old) }
+        ensures kept { IsKept self.new }
+    {
+        let act = DeskAct::Refused(rule);
         self.history.enter(DeskEntry { stamp, who, act });
     }
 }

@@ -1,6 +1,11 @@
 //! Why a call on a desk fails.
 
+ghost use Rattle.std.specs.Prelude.{◌≡◌};
+ghost use Rattle.ds_desk.specs.declared.fault.DeskFault.TheVariants as desk_faults;
+ghost use Rattle.ds_desk.specs.declared.fault.EntryFault.TheVariants as entry_faults;
+
 use ds_label::Rule;
+use std::alloc::AllocError;
 use thiserror::Error;
 
 /// Why a call fails that takes the keeper of marks.
@@ -26,4 +31,20 @@ pub enum EntryFault {
     /// Memory ran out. Nothing is entered.
     #[error("out of memory")]
     NoMemory,
+}
+
+impl From<AllocError> for DeskFault {
+    ghost from_gives = { λ _ e. e ≡ desk_faults.NoMemory };
+
+    fn from(_fault: AllocError) -> DeskFault {
+        DeskFault::NoMemory
+    }
+}
+
+impl From<AllocError> for EntryFault {
+    ghost from_gives = { λ _ e. e ≡ entry_faults.NoMemory };
+
+    fn from(_fault: AllocError) -> EntryFault {
+        EntryFault::NoMemory
+    }
 }

@@ -6,7 +6,9 @@ mod act;
 mod calls;
 mod fault;
 mod history;
+mod importing;
 mod issued;
+mod mapping;
 mod opening;
 mod state;
 
