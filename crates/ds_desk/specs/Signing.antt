@@ -33,11 +33,14 @@ key_of s = record { params = types_of s; seed = s.seed; id = s.identifier }
 abbrev pub unsigned : PubKey → Category → (to : PubKey) → (from until : ℕ) → Delegation
 unsigned by c to from until = record { category = c; to = to; from = from; until = until; by = by; signature = [] }
 
+-- the same with this signature
+abbrev pub with_signature : Delegation → List ℕ → Delegation
+with_signature d made = record d { signature = made }
+
 -- the delegation with the key's signature at that leaf
 abbrev pub signed_at : Key → (leaf : ℕ) → PubKey → Category → (to : PubKey) → (from until : ℕ) → Delegation
-signed_at key leaf by c to from until = record {
-    category = c; to = to; from = from; until = until; by = by;
-    signature = signature key.params key.seed key.id leaf (signed_part_of_delegation (unsigned by c to from until)) }
+signed_at key leaf by c to from until =
+    with_signature (unsigned by c to from until) (signature key.params key.seed key.id leaf (signed_part_of_delegation (unsigned by c to from until)))
 
 -- the value that was read, if one was
 abbrev pub if_read : {A : Type 0} → Result A ℕ → Option A

@@ -4,6 +4,8 @@
 
 mod act;
 mod calls;
+mod delegating;
+mod draft;
 mod fault;
 mod history;
 mod importing;
