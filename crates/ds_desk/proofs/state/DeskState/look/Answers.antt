@@ -1,0 +1,9 @@
+use Rattle.std.proofs.Common.{refl}
+use Rattle.ds_model.specs.Desk.{Looked}
+use Rattle.ds_desk.specs.Desks.{kept_of}
+use Rattle.ds_desk.proofs.Grows.{grown}
+use Rattle.ds_desk.proofs.state.DeskState.look.Goals as goal
+
+pub returns-clause-kept : goal.returns-clause-kept
+returns-clause-kept c =
+    rw c.enter.ensures (grown (kept_of c.args.self.now) c.args.stamp c.args.who Looked c.requires.kept c.requires.later (λ s plan. refl))

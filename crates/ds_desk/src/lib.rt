@@ -1,0 +1,22 @@
+//! A host's public state, the desk: its moment, the certificates that it keeps, those that it issued, its table of foreign
+//! categories and its identity key, with the history of all that touched them.
+#![tactic(auto)]
+
+mod act;
+mod calls;
+mod delegating;
+mod draft;
+mod fault;
+mod history;
+mod importing;
+mod issued;
+mod mapping;
+mod opening;
+mod state;
+
+pub use act::{DeskAct, DeskEntry};
+pub use fault::{DeskFault, EntryFault};
+pub use history::DeskHistory;
+pub use issued::IssuedList;
+pub use opening::DeskOpening;
+pub use state::DeskState;
