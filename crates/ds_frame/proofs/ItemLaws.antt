@@ -56,6 +56,7 @@ cert_spelt cert lane fits e = cases (read_lane_cert cert) refl e
         subst (λ (l : LaneCert). IsCert cert l) (ok_is {E = Stop} found lane h)
         (record { hello = record { fits = spelt.0; good = good_from_test found.exporter.0 (signed_part_of_lane_cert found) found.signature g }; spelled = spelt.1 })
     good found false f g h = absurd cc
+
     cases : (r : Result LaneCert ℕ) → read_lane_cert cert ≡ r → checked_cert r ≡ Ok lane → IsCert cert lane
     cases (Ok found) f g = good found (is_good_lane_cert found) f refl g
     cases (Err place) f g = absurd cc
@@ -117,6 +118,7 @@ frame_checked key o frame fits bytes e = cases (split o.messages o.body) refl e
   where
     made : List (List ℕ) → Frame
     made bodies = record { number = o.number; bodies = bodies }
+
     signed : (bodies : List (List ℕ)) (b c : Bool) → IsSplit o.messages o.body bodies → begins_with o.number o.signature ≡ b → is_good key.0 (signed_fields o.number o.messages o.body) o.signature ≡ c
         → cond b (cond c (Ok (record { number = o.number; bodies = bodies })) (Err (Broken causes.Signature (13 + length o.body)))) (Err (Broken causes.Leaf (13 + length o.body))) ≡ Ok frame → IsChecked key o frame
     signed bodies false c is f g h = absurd cc
@@ -129,6 +131,7 @@ frame_checked key o frame fits bytes e = cases (split o.messages o.body) refl e
           signed = record { number = fits.number; bodies = bodies_range o bodies fits is; size = fits.signature; leaf = (bytes_eq-Decides (take 4 o.signature) (to_be_bytes w32 o.number)).0 f; good = good };
           spelled = ap (λ (part : List ℕ). part ++ spelling_of_signature o.signature) (fields_split o bodies is);
         })
+
     cases : (r : Option (List (List ℕ))) → split o.messages o.body ≡ r → checked_bodies key o r ≡ Ok frame → IsChecked key o frame
     cases None f g = absurd cc
     cases (Some bodies) f g = signed bodies (begins_with o.number o.signature) (is_good key.0 (signed_fields o.number o.messages o.body) o.signature) (split_spelt o.messages o.body bodies bytes f) refl refl g

@@ -1,8 +1,9 @@
 -- How long hellos and bodies are.
 use Rattle.std.proofs.Common.{◌≡◌, ℕ, ◌≤◌, List, [], length, sym, ap, subst, ◌∙◌, arith}
 use Rattle.std.specs.Prelude.{Result, Ok}
+use Rattle.std.specs.List.{All}
 use Rattle.std.proofs.lemmas.List.{append-nil}
-use Rattle.std.proofs.lemmas.List.Elements.{All-from_recursion}
+use Rattle.std.proofs.lemmas.List.Elements.{All-from_recursion, recursion_from_All}
 use Rattle.ds_cert.specs.declared.lane.LaneCert.{LaneCert}
 use Rattle.ds_cert.specs.Ranges.{LaneCertFits}
 use Rattle.ds_cert.specs.Reading.{lane_cert_at}
@@ -10,7 +11,7 @@ use Rattle.ds_cert.specs.Spelling.{spelling_of_lane_cert, signed_part_of_lane_ce
 use Rattle.ds_cert.proofs.RecordLaws.{is_lane_cert}
 use Rattle.ds_cert.proofs.Places.{Uses, left_of, uses_lane_cert}
 use Rattle.ds_frame.specs.Ranges.{HelloFits, AreCounted, BodiesRange}
-use Rattle.ds_frame.proofs.BodyLaws.{IsCounted, all_counted}
+use Rattle.ds_frame.proofs.BodyLaws.{IsCounted, all_counted, small_bodies}
 
 begins : (l : LaneCert) → 1 ≤ length (spelling_of_lane_cert l)
 unfolding spelling_of_lane_cert signed_part_of_lane_cert
@@ -25,3 +26,9 @@ hello_fits l fits =
 
 pub are_counted : (bodies : List (List ℕ)) → BodiesRange bodies → AreCounted bodies
 are_counted bodies range = All-from_recursion IsCounted bodies (all_counted bodies (omega (arith, range.most)))
+
+-- from 1 to 16 messages in their own range
+pub messages_in_range : (bodies : List (List ℕ)) → 1 ≤ length bodies → length bodies ≤ 16 → All (λ body. length body ≤ 72229) bodies → BodiesRange bodies
+messages_in_range bodies first last each =
+    let small = small_bodies bodies (recursion_from_All (λ (body : List ℕ). length body ≤ 72229) bodies each) in
+    record { first = first; last = last; most = omega (arith, small, last) }

@@ -127,6 +127,7 @@ cert_inside cert cause offset e = cases (read_lane_cert cert) refl e
     good : (lane : LaneCert) (b : Bool) → cond b (Ok lane) (Err (Broken causes.HelloSignature 6)) ≡ Err (Broken cause offset) → offset ≤ 6 + length cert
     good lane true g = absurd cc
     good lane false g = let is : offset ≡ 6 = cc in omega (arith, is)
+
     cases : (r : Result LaneCert ℕ) → read_lane_cert cert ≡ r → checked_cert r ≡ Err (Broken cause offset) → offset ≤ 6 + length cert
     cases (Ok lane) f g = good lane (is_good_lane_cert lane) g
     cases (Err place) f g = let is : offset ≡ 6 + place = cc in omega (arith, is, place_inside cert place f)
@@ -163,6 +164,7 @@ bodies_inside key o cause offset e = cases (split o.messages o.body) e
     signed true true frame g = absurd cc
     signed true false frame g = let is : offset ≡ 13 + length o.body = cc in omega (arith, is)
     signed false c frame g = let is : offset ≡ 13 + length o.body = cc in omega (arith, is)
+
     cases : (r : Option (List (List ℕ))) → checked_bodies key o r ≡ Err (Broken cause offset) → offset ≤ 13 + length o.body
     cases None g = let is : offset ≡ 11 = cc in omega (arith, is)
     cases (Some bodies) g = signed (begins_with o.number o.signature) (is_good key.0 (signed_fields o.number o.messages o.body) o.signature) (record { number = o.number; bodies = bodies }) g

@@ -38,9 +38,10 @@ hello_spelt bytes cert rest fits e =
     let counted : Takes r3 (to_be_bytes w16 (length cert) ++ cert) rest = subst (λ (n : ℕ). Takes r3 (to_be_bytes w16 n ++ cert) rest) (sym u.1) (Takes-then r3 (to_be_bytes w16 v4) r4 cert rest t4 u.0) in
     let u3 = Takes-then r2 (to_be_bytes w8 0x31) r3 (to_be_bytes w16 (length cert) ++ cert) rest (tag_takes 0x31 r2 v3 r3 f3 t3) counted in
     let u2 = Takes-then r1 (to_be_bytes w8 0x58) r2 (to_be_bytes w8 0x31 ++ (to_be_bytes w16 (length cert) ++ cert)) rest (tag_takes 0x58 r1 v2 r2 f2 t2) u3 in
-    let u1 = Takes-then r0 (to_be_bytes w8 0x53) r1 (to_be_bytes w8 0x58 ++ (to_be_bytes w8 0x31 ++ (to_be_bytes w16 (length cert) ++ cert))) rest (tag_takes 0x53 r0 v1 r1 f1 t1) u2 in
-    (Takes-then bytes (to_be_bytes w8 0x44) r0 (to_be_bytes w8 0x53 ++ (to_be_bytes w8 0x58 ++ (to_be_bytes w8 0x31 ++ (to_be_bytes w16 (length cert) ++ cert)))) rest (tag_takes 0x44 bytes v0 r0 f0 t0) u1,
-    record { some = omega (arith, f4.least, u.1); most = omega (arith, f4.most, u.1) }))))))
+    let u1 = Takes-then r0 (to_be_bytes w8 0x53) r1 (to_be_bytes w8 0x58 ++ (to_be_bytes w8 0x31 ++ (to_be_bytes w16 (length cert) ++ cert))) rest (tag_takes 0x53 r0 v1 r1 f1 t1) u2 in (
+      Takes-then bytes (to_be_bytes w8 0x44) r0 (to_be_bytes w8 0x53 ++ (to_be_bytes w8 0x58 ++ (to_be_bytes w8 0x31 ++ (to_be_bytes w16 (length cert) ++ cert)))) rest (tag_takes 0x44 bytes v0 r0 f0 t0) u1,
+      record { some = omega (arith, f4.least, u.1); most = omega (arith, f4.most, u.1) },
+    ))))))
 
 hello_again : (cert rest : List ℕ) → HelloFits cert → read_outer_hello (outer_spelling_of_hello cert ++ rest) ≡ Ok (cert, rest)
 unfolding read_outer_hello outer_spelling_of_hello

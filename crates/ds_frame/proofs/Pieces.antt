@@ -126,5 +126,5 @@ module _ (reading : Reading) (steady : (lane : Option LaneCert) → IsSteady 1 (
   read_by_pieces calls =
       let s = after reading calls new_session in
       let whole : stream_by reading (fed_by calls) ≡ with_front s.handed (ahead reading s.reader) =
-          ap (stream_by reading) (sym (append-nil (fed_by calls))) ∙ after_all calls [] new_session at_start [] ∙ ap (λ (r : Reader). with_front s.handed (ahead reading r)) (nothing_more s.reader) in
+      ap (stream_by reading) (sym (append-nil (fed_by calls))) ∙ after_all calls [] new_session at_start [] ∙ ap (λ (r : Reader). with_front s.handed (ahead reading r)) (nothing_more s.reader) in
       continues_for (stream_by reading (fed_by calls)) s.reader.rest s.reader.passed s.reader.lane s.reader.failure s.handed whole

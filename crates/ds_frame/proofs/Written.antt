@@ -35,6 +35,7 @@ module _ {A : Type 0} (Fits : A → Type 0) (spelling : A → List ℕ) (reading
     where
       whole : reading (bytes ++ missing) ≡ Ok (x, [])
       whole = ap reading (sym parts ∙ sym (append-nil (spelling x))) ∙ is.read_again x [] fits
+
       cases : (r : Result (A × List ℕ) Stop) → reading bytes ≡ r → r ≡ Err Open
       cases (Ok y) e =
           let longer : done {A = A × List ℕ} (y.0, y.1 ++ missing) ≡ Ok (x, []) = sym (steady.goes_on bytes missing y e) ∙ whole in

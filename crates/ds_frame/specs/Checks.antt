@@ -38,8 +38,8 @@ abbrev pub checked_bodies : (key : PubKey) → OuterFrame → Option (List (List
 checked_bodies key o None = Err (Broken causes.Split 11)
 checked_bodies key o (Some bodies) =
     if begins_with o.number o.signature then
-        if is_good key.0 (signed_fields o.number o.messages o.body) o.signature then Ok (record { number = o.number; bodies = bodies })
-        else Err (Broken causes.Signature (13 + length o.body))
+    if is_good key.0 (signed_fields o.number o.messages o.body) o.signature then Ok (record { number = o.number; bodies = bodies })
+    else Err (Broken causes.Signature (13 + length o.body))
     else Err (Broken causes.Leaf (13 + length o.body))
 
 -- a hello

@@ -26,3 +26,6 @@ pub use laws::{
 };
 pub use reader::FrameReader;
 pub use writing::{frame_bytes, frame_part, hello_bytes};
+
+#[cfg(test)]
+mod tests;

@@ -27,7 +27,12 @@ pub fn hello_of(alloc: Global, bytes: &[u8]) -> Result<(LaneCert, &[u8]), Halt>
 }
 
 /// The frame with these fields, whose signature, over that part, is good under the key.
-fn checked_frame(alloc: Global, key: &PubKey, part: &[u8], fields: OuterFrame) -> Result<Frame, Halt>
+fn checked_frame(
+    alloc: Global,
+    key: &PubKey,
+    part: &[u8],
+    fields: OuterFrame,
+) -> Result<Frame, Halt>
     requires messages { fields.1 ≤ 16 }
     requires part { part.now ≡ signed_fields fields.0 fields.1 fields.2.now }
     ensures { Finds (λ x. x) result (checked_bodies key.now (record { number = fields.entry.0; messages = fields.entry.1; body = fields.entry.2.now; signature = fields.entry.3.now }) (split fields.entry.1 fields.entry.2.now)) }
@@ -58,7 +63,11 @@ pub fn frame_of<'a>(alloc: Global, key: &PubKey, bytes: &'a [u8]) -> Result<(Fra
 
 /// The item at the front, and what follows it.
 #[tactic(auto, unfolding(crate::specs::Checks::read_item))]
-fn item_and_rest<'a>(alloc: Global, lane: &Option<LaneCert>, bytes: &'a [u8]) -> Result<(Item, &'a [u8]), Halt>
+fn item_and_rest<'a>(
+    alloc: Global,
+    lane: &Option<LaneCert>,
+    bytes: &'a [u8],
+) -> Result<(Item, &'a [u8]), Halt>
     ensures { Finds (λ x. (x.0, x.1.now)) result (read_item lane.now bytes.now) }
 {
     match lane {

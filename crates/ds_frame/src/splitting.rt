@@ -22,7 +22,11 @@ fn body_of(bytes: &[u8]) -> Option<(&[u8], &[u8])>
 }
 
 /// That many messages, each copied once its bytes are there, and the rest.
-fn bodies_of(alloc: Global, messages: u16, bytes: &[u8]) -> Result<Option<(BodyList, &[u8])>, AllocError>
+fn bodies_of(
+    alloc: Global,
+    messages: u16,
+    bytes: &[u8],
+) -> Result<Option<(BodyList, &[u8])>, AllocError>
     requires { messages ≤ 16 }
     ensures { IfOk result (λ o. MatchOption o (bodies_at messages [] bytes.now ≡ None) (λ x. bodies_at messages [] bytes.now ≡ Some (x.0, x.1.now))) }
 {
