@@ -14,14 +14,15 @@ use Rattle.ds_label.specs.declared.rule.Rule.{Rule}
 use Rattle.ds_model.specs.FirstRule.{unless, first_rule}
 use Rattle.ds_script.specs.declared.actor.Actor.{Actor}
 use Rattle.ds_script.specs.Replay.{onward, last_of}
-use Rattle.ds_script.proofs.Replays.{replay-push, rises-push}
+use Rattle.ds_script.proofs.Replays.{replay-push, rises-push, last_of-push}
 use Rattle.ds_model.specs.Scheme.{Scheme}
 use Rattle.ds_model.specs.Plan.{HostPlan}
 use Rattle.ds_model.specs.Desk.{Desk, desk_after, desk_needs, desk_step, Ticked, Delegated, Imported, Mapped, Looked, Denied, is_none, DeskEntry as Change}
+use Rattle.ds_desk.specs.declared.act.DeskEntry.{DeskEntry}
 use Rattle.ds_desk.specs.Signing.{desk_scheme, desk_plan, key_of, signing_of, with_signature}
 use Rattle.ds_cert.specs.declared.delegation.Delegation.{Delegation}
 use Rattle.ds_cert.specs.Spelling.{signed_part_of_delegation, spelling_of_delegation, spelling_of_signature}
-use Rattle.ds_desk.specs.Desks.{Kept, IsReplay, MayStand, change_of, act_of, entry_of, stamp_of, history_step, entered}
+use Rattle.ds_desk.specs.Desks.{Kept, IsReplay, MayStand, desk_then, change_of, act_of, entry_of, stamp_of, history_step, entered}
 
 -- the model's entry is an act's, and the act is its
 change_again : (change : Change) → change_of (act_of change) ≡ change
@@ -36,14 +37,18 @@ change_again (Denied rule) = refl
 may_stand : (s : Scheme) (plan : HostPlan) (stamp : ℕ) (who : Actor) (change : Change) (desk : Desk) → desk_needs s plan change desk ≡ true → history_step s plan desk (entry_of stamp who change) ≡ Some (desk_after plan.key change desk)
 may_stand s plan stamp who change desk may = rw (change_again change, may) refl
 
-pub grown : (k : Kept) (stamp : ℕ) (who : Actor) (change : Change) → IsReplay k → last_of stamp_of k.before k.history < stamp → MayStand k change → IsReplay (entered stamp who change k)
+-- the last stamp is the entry's
+pub last_entered : (base : ℕ) (history now : List DeskEntry) (e : DeskEntry) → now ≡ history ++ e ∷ [] → last_of stamp_of base now ≡ e.stamp
+last_entered base history now e is = ap (last_of stamp_of base) is ∙ last_of-push stamp_of base history e
+
+pub grown : (k : Kept) (stamp : ℕ) (who : Actor) (change : Change) → IsReplay k → last_of stamp_of k.opening.before k.history < stamp → MayStand k change → IsReplay (entered stamp who change k)
 grown k stamp who change is later may =
     let e = entry_of stamp who change in
     record {
       replays = λ s plan.
           let step = history_step (desk_scheme s) (desk_plan plan k.here k.key) in
-          replay-push step k.opening k.history e ∙ ap (λ o. onward o (λ t. step t e)) (is.replays s plan) ∙ may_stand (desk_scheme s) (desk_plan plan k.here k.key) stamp who change k.desk (may s plan);
-      rises = rises-push stamp_of k.before k.history e is.rises later;
+          replay-push step (desk_then k.opening) k.history e ∙ ap (λ o. onward o (λ t. step t e)) (is.replays s plan) ∙ may_stand (desk_scheme s) (desk_plan plan k.here k.key) stamp who change k.desk (may s plan);
+      rises = rises-push stamp_of k.opening.before k.history e is.rises later;
       signer = is.signer;
       table = is.table;
     }

@@ -38,15 +38,14 @@ entry_of stamp who change = record { stamp = stamp; who = who; act = act_of chan
 abbrev pub stamp_of : DeskEntry → ℕ
 stamp_of entry = entry.stamp
 
--- A host's key, its signer's, and the host of its table; the desk now and at its opening, the last stamp before that, and the
--- entries since. What is left out is the room that lists have taken.
+-- A host's key, its signer's, and the host of its table; the desk now, its opening, and the entries since. What is left out is
+-- the room that lists have taken.
 pub record Kept : Type 0 where
   pub here : PubKey
   pub key : Key
   pub table : PubKey
   pub desk : Desk
-  pub opening : Desk
-  pub before : ℕ
+  pub opening : DeskOpening
   pub history : List DeskEntry
 
 -- the model's desk in the fields
@@ -58,7 +57,7 @@ abbrev pub desk_then : DeskOpening → Desk
 desk_then o = record { moment = o.moment; rows = o.table.rows; store = o.store.items; addresses = o.addresses.items; issued = o.issued.items; leaf = o.leaf }
 
 abbrev pub kept_of : DeskState → Kept
-kept_of s = record { here = s.here; key = s.signer.key; table = s.table.here; desk = desk_of s; opening = desk_then s.opening; before = s.opening.before; history = s.history.items }
+kept_of s = record { here = s.here; key = s.signer.key; table = s.table.here; desk = desk_of s; opening = s.opening; history = s.history.items }
 
 -- the stamp of the last entry, or of the last one before the opening
 abbrev pub last_stamp : DeskState → ℕ
@@ -74,8 +73,8 @@ history_step s plan desk entry = desk_step s plan desk (change_of entry.act)
 -- The desk is the replay of its history, each entry where it may stand; the stamps rise; the signer's public key is the host's,
 -- and the table was made for it.
 pub record IsReplay (k : Kept) : Type 0 where
-  pub replays : (s : Scheme) (plan : HostPlan) → replay (history_step (desk_scheme s) (desk_plan plan k.here k.key)) k.opening k.history ≡ Some k.desk
-  pub rises : rises stamp_of k.before k.history ≡ true
+  pub replays : (s : Scheme) (plan : HostPlan) → replay (history_step (desk_scheme s) (desk_plan plan k.here k.key)) (desk_then k.opening) k.history ≡ Some k.desk
+  pub rises : rises stamp_of k.opening.before k.history ≡ true
   pub signer : k.here.0 ≡ public_key k.key.params k.key.seed k.key.id
   pub table : k.table ≡ k.here
 

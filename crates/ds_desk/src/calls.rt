@@ -1,7 +1,7 @@
 //! What a desk is told: ticks and looks.
 #![tactic(auto)]
 
-ghost use Rattle.std.specs.Prelude.{◌≡◌, ◌<◌, OnOk, OnErr, max};
+ghost use Rattle.std.specs.Prelude.{◌≡◌, ◌<◌, ◌≤◌, OnOk, OnErr, max};
 ghost use Rattle.ds_model.specs.Desk.{Ticked, Looked, Denied};
 ghost use Rattle.ds_desk.specs.Desks.{IsKept, MayStand, kept_of, last_stamp, entered};
 
@@ -21,6 +21,7 @@ impl DeskState {
         ensures moment { OnOk result (self.new.moment ≡ max self.old.moment to) }
         ensures err { OnErr result (kept_of self.new ≡ kept_of self.old) }
         ensures kept { IsKept self.new }
+        ensures last { last_stamp self.new ≤ stamp }
     {
         self.history.reserve()?;
         let act = DeskAct::Tick { to };
@@ -36,6 +37,7 @@ impl DeskState {
         requires room { 0 < self.old.history.spare }
         ensures entry { kept_of self.new ≡ entered stamp who Looked (kept_of self.old) }
         ensures kept { IsKept self.new }
+        ensures last { last_stamp self.new ≤ stamp }
     {
         let act = DeskAct::Look;
         self.history.enter(DeskEntry { stamp, who, act });
@@ -49,6 +51,7 @@ impl DeskState {
         requires may { MayStand (kept_of self.old) (Denied rule) }
         ensures entry { kept_of self.new ≡ entered stamp who (Denied rule) (kept_of self.old) }
         ensures kept { IsKept self.new }
+        ensures last { last_stamp self.new ≤ stamp }
     {
         let act = DeskAct::Refused(rule);
         self.history.enter(DeskEntry { stamp, who, act });

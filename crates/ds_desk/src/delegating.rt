@@ -100,6 +100,7 @@ impl DeskState {
         ensures entry { (s : Scheme) (plan : HostPlan) → EntersOver result (kept_of self.old)
             (entered stamp who (entry_for s plan (kept_of self.old) (Delegating category to from until)) (kept_of self.old)) (kept_of self.new) }
         ensures kept { IsKept self.new }
+        ensures last { last_stamp self.new ≤ stamp }
         ensures faults { K.faults keeper.old ≤ K.faults keeper.new }
         ensures raised { OnOk result (Raised (K.tells keeper.old) self.old.signer.key.id (self.old.signer.next + 1) (K.tells keeper.new)) }
         ensures untouched { IfErr result (λ e. e ≢ DeskFault.KeeperFault → keeper.new ≡ keeper.old) }
@@ -137,6 +138,7 @@ impl DeskState {
         ensures store { self.new.store.items ≡ with_delegation made.kept self.old.store.items }
         ensures issued { self.new.issued.items ≡ self.old.issued.items ++ made.kept ∷ [] }
         ensures entry { self.new.history.items ≡ self.old.history.items ++ entry_of stamp who (Delegated made.kept) ∷ [] }
+        ensures last { last_stamp self.new ≤ stamp }
         ensures host { (self.new.here ≡ self.old.here) × (self.new.moment ≡ self.old.moment) × (self.new.signer ≡ self.old.signer) }
         ensures lists { (self.new.addresses ≡ self.old.addresses) × (self.new.table ≡ self.old.table) × (self.new.opening ≡ self.old.opening) }
     {

@@ -1,7 +1,9 @@
 //! The entries of a desk.
 #![tactic(auto)]
 
-ghost use Rattle.std.specs.Prelude.{◌≡◌, ◌≤◌, ◌<◌, ◌++◌, [], ◌∷◌, length, OnOk};
+ghost use Rattle.std.specs.Prelude.{◌≡◌, ◌↔◌, ℕ, ◌≤◌, ◌<◌, ◌++◌, [], ◌∷◌, length, IsTrue, OnOk};
+ghost use Rattle.ds_script.specs.Replay.{last_of};
+ghost use Rattle.ds_desk.specs.Desks.{stamp_of};
 
 use crate::act::DeskEntry;
 use std::alloc::{AllocError, Global};
@@ -41,6 +43,13 @@ impl DeskHistory {
         self.entries.len()
     }
 
+    /// Whether there is none.
+    pub fn is_empty(&self) -> bool
+        ensures { IsTrue result ↔ (self.now.items ≡ []) }
+    {
+        self.entries.as_slice().is_empty()
+    }
+
     /// The entries, in order.
     pub fn as_slice(&self) -> &[DeskEntry]
         ensures { result.now ≡ self.now.items }
@@ -58,9 +67,11 @@ impl DeskHistory {
     }
 
     /// Enters, where there is room. Takes no memory.
+    #[tactic(auto, using(crate::proofs::Grows::last_entered))]
     pub(crate) fn enter(&mut self, entry: DeskEntry)
         requires { 0 < self.old.spare }
-        ensures { self.new.items ≡ self.old.items ++ entry ∷ [] }
+        ensures items { self.new.items ≡ self.old.items ++ entry ∷ [] }
+        ensures last { (base : ℕ) → last_of stamp_of base self.new.items ≡ entry.stamp }
     {
         self.entries.push_reserved(entry);
     }

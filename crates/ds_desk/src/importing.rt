@@ -1,7 +1,7 @@
 //! Certificates from elsewhere.
 #![tactic(auto)]
 
-ghost use Rattle.std.specs.Prelude.{◌≡◌, ◌<◌, ◌||◌, [], ◌∷◌, Some, true, length, nat_lt};
+ghost use Rattle.std.specs.Prelude.{◌≡◌, ◌<◌, ◌≤◌, ◌||◌, [], ◌∷◌, Some, true, length, nat_lt};
 ghost use Rattle.ds_label.specs.declared.rule.Rule.TheVariants as rules;
 ghost use Rattle.ds_cert.specs.declared.cert.Cert.TheVariants as certs;
 ghost use Rattle.ds_cert.specs.Good.{is_good_delegation, is_good_address};
@@ -94,6 +94,7 @@ impl DeskState {
         ensures entry { (s : Scheme) (plan : HostPlan) → Enters result (kept_of self.old)
             (entered stamp who (entry_for s plan (kept_of self.old) (Importing cert.now)) (kept_of self.old)) (kept_of self.new) }
         ensures kept { IsKept self.new }
+        ensures last { last_stamp self.new ≤ stamp }
     {
         match Cert::decode(self.issued.allocator(), cert) {
             Ok(Cert::Delegation(new)) => self.take_delegation(stamp, who, new),
@@ -116,6 +117,7 @@ impl DeskState {
         ensures entry { (s : Scheme) → Enters result (kept_of self.old)
             (entered stamp who (import_for s (kept_of self.old) (Some (certs.Delegation new))) (kept_of self.old)) (kept_of self.new) }
         ensures kept { IsKept self.new }
+        ensures last { last_stamp self.new ≤ stamp }
     {
         self.history.reserve()?;
         if let Some(rule) = delegation_rule(&self.store, &new) {
@@ -139,6 +141,7 @@ impl DeskState {
         ensures entry { (s : Scheme) → Enters result (kept_of self.old)
             (entered stamp who (import_for s (kept_of self.old) (Some (certs.Address new))) (kept_of self.old)) (kept_of self.new) }
         ensures kept { IsKept self.new }
+        ensures last { last_stamp self.new ≤ stamp }
     {
         self.history.reserve()?;
         if let Some(rule) = address_rule(&self.addresses, &new) {

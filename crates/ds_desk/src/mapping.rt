@@ -1,7 +1,7 @@
 //! Foreign categories get their numbers.
 #![tactic(auto)]
 
-ghost use Rattle.std.specs.Prelude.{◌≡◌, ◌<◌, ◌||◌, false, length, nat_lt, IfOk, OnOk, OnErr};
+ghost use Rattle.std.specs.Prelude.{◌≡◌, ◌<◌, ◌≤◌, ◌||◌, false, length, nat_lt, IfOk, OnOk, OnErr};
 ghost use Rattle.ds_label.specs.declared.rule.Rule.TheVariants as rules;
 ghost use Rattle.ds_model.specs.Scheme.{Scheme};
 ghost use Rattle.ds_model.specs.Plan.{HostPlan};
@@ -52,6 +52,7 @@ impl DeskState {
         ensures entry { (s : Scheme) (plan : HostPlan) → Enters result (kept_of self.old)
             (entered stamp who (entry_for s plan (kept_of self.old) (Mapping name)) (kept_of self.old)) (kept_of self.new) }
         ensures kept { IsKept self.new }
+        ensures last { last_stamp self.new ≤ stamp }
     {
         self.history.reserve()?;
         match mapped(&mut self.table, name) {

@@ -3,7 +3,7 @@
 
 ghost use Rattle.std.specs.Prelude.{◌≡◌, [], IfOk, OnOk};
 ghost use Rattle.lms_sig.specs.Merkle.{public_key};
-ghost use Rattle.ds_desk.specs.Desks.{IsKept, kept_of, desk_of, desk_then};
+ghost use Rattle.ds_desk.specs.Desks.{IsKept, kept_of, desk_of, desk_then, last_stamp};
 
 use crate::history::DeskHistory;
 use crate::issued::IssuedList;
@@ -87,6 +87,8 @@ impl DeskState {
     pub fn reserve(&mut self) -> Result<(), AllocError>
         ensures room { OnOk result (self.new.history.spare ≡ 1) }
         ensures same { kept_of self.new ≡ kept_of self.old }
+        ensures kept { IsKept self.old → IsKept self.new }
+        ensures last { last_stamp self.new ≡ last_stamp self.old }
     {
         self.history.reserve()
     }

@@ -6,4 +6,4 @@ use Rattle.ds_desk.proofs.state.DeskState.look.Goals as goal
 
 pub returns-clause-kept : goal.returns-clause-kept
 returns-clause-kept c =
-    rw c.enter.ensures (grown (kept_of c.args.self.now) c.args.stamp c.args.who Looked c.requires.kept c.requires.later (λ s plan. refl))
+    rw c.enter.ensures.items (grown (kept_of c.args.self.now) c.args.stamp c.args.who Looked c.requires.kept c.requires.later (λ s plan. refl))

@@ -7,6 +7,6 @@ use Rattle.ds_desk.proofs.state.DeskState.take_address.Goals as goal
 
 pub returns-clause-kept : goal.returns-clause-kept
 returns-clause-kept c =
-    rw (c.enter.ensures, c.keep_address.ensures, c.in_ok-copy.ensures, c.reserve-2.ensures.same, c.reserve.ensures.same)
+    rw (c.enter.ensures.items, c.keep_address.ensures, c.in_ok-copy.ensures, c.reserve-2.ensures.same, c.reserve.ensures.same)
     (grown (kept_of c.args.self.now) c.args.stamp c.args.who (Imported (certs.Address c.args.new)) c.requires.kept c.requires.later
     (λ s plan. second_holds _ _ _ _ (sym c.address_rule.ensures ∙ c.in_default.is)))
