@@ -15,6 +15,6 @@ unfolding spelling_of_message
 returns c =
     let self = c.args.self.now in
     let spelled : c.append_payload.new.out ≡ spelling_of_message self =
-        rw (c.in_ok-append_payload.ensures, c.in_ok-append_certs.ensures, c.in_ok-append_label-3.ensures, c.in_ok-append_label-2.ensures, c.in_ok-append_label.ensures, c.in_ok-put_u32.ensures.ok, c.in_ok-append.ensures.ok, c.in_ok-put_u8.ensures.ok, c.in_ok-out.ensures)
-        (joined8 (to_be_bytes w8 6) self.to.0 (to_be_bytes w32 self.slot) (spelling_of_label self.label) (spelling_of_label self.own) (spelling_of_label self.clear) (spelling_of_certs self.certs) (spelling_of_payload self.payload)) in
+    rw (c.in_ok-append_payload.ensures, c.in_ok-append_certs.ensures, c.in_ok-append_label-3.ensures, c.in_ok-append_label-2.ensures, c.in_ok-append_label.ensures, c.in_ok-put_u32.ensures.ok, c.in_ok-append.ensures.ok, c.in_ok-put_u8.ensures.ok, c.in_ok-out.ensures)
+    (joined8 (to_be_bytes w8 6) self.to.0 (to_be_bytes w32 self.slot) (spelling_of_label self.label) (spelling_of_label self.own) (spelling_of_label self.clear) (spelling_of_certs self.certs) (spelling_of_payload self.payload)) in
     record { spelled = spelled; short = subst (λ (b : List ℕ). length b ≤ 72229) (sym spelled) (message_length self c.show_fits.ensures) }
