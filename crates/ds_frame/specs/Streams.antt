@@ -1,9 +1,8 @@
--- What a whole stream carries: its items, one after the other from its start, up to the first with a cause.
+-- What a whole stream carries: its items, one after the other from its start, up to the first that breaks it, and how it ends.
 use Rattle.std.specs.Prelude.{ℕ, zero, suc, ◌+◌, ◌-◌, List, [], ◌∷◌, length, Option, Some, None, Result, Ok, Err}
 use Rattle.ds_cert.specs.declared.lane.LaneCert.{LaneCert}
 use Rattle.ds_frame.specs.declared.item.Item.{Item}
 use Rattle.ds_frame.specs.Fields.{Stop, Open, Broken}
-use Rattle.ds_frame.specs.Checks.{read_item}
 use Rattle.ds_frame.specs.Reader.{Reading, lane_after}
 use Rattle.ds_frame.specs.declared.item.Failure.{Failure}
 
@@ -27,12 +26,6 @@ read_on reading zero lane passed bytes = record { items = []; ending = None }
 read_on reading (suc most) lane passed bytes =
     joined passed (λ item rest. read_on reading most (lane_after item lane) (passed + (length bytes - length rest)) rest) (reading lane bytes)
 
--- each item has a byte, so there are no more items than bytes
+-- The items and the ending of a whole stream. Each item has a byte, so there are no more items than bytes.
 abbrev pub stream_by : Reading → List ℕ → Stream
 stream_by reading stream = read_on reading (suc (length stream)) None 0 stream
-
-abbrev pub items : List ℕ → List Item
-items stream = (stream_by read_item stream).items
-
-abbrev pub ending : List ℕ → Option Failure
-ending stream = (stream_by read_item stream).ending
