@@ -87,10 +87,12 @@ fn desk(alloc: Global, ots: OtsType, mark: u64) -> Result<(DeskState, MemKeeper)
 /// Whether the entry at this place is a tick to this moment.
 fn is_tick(desk: &DeskState, place: usize, moment: u64) -> bool {
     match desk.history.as_slice().get(place) {
-        Some(DeskEntry {
-            act: DeskAct::Tick { to },
-            ..
-        }) => *to == moment,
+        Some(
+            DeskEntry {
+                act: DeskAct::Tick { to },
+                ..
+            },
+        ) => *to == moment,
         _ => false,
     }
 }
@@ -98,10 +100,12 @@ fn is_tick(desk: &DeskState, place: usize, moment: u64) -> bool {
 /// Whether the last entry is a refusal by this rule, and there are that many.
 fn is_refused(desk: &DeskState, count: usize, by: Rule) -> bool {
     match desk.history.as_slice().last() {
-        Some(DeskEntry {
-            act: DeskAct::Refused(rule),
-            ..
-        }) => *rule == by && desk.history.len() == count,
+        Some(
+            DeskEntry {
+                act: DeskAct::Refused(rule),
+                ..
+            },
+        ) => *rule == by && desk.history.len() == count,
         _ => false,
     }
 }
@@ -156,11 +160,7 @@ fn the_first_row_is_2_to_the_63(rt: HostRuntime) -> Result<(), Fail> {
 }
 
 /// A delegation of the first category, at this stamp.
-fn delegated(
-    desk: &mut DeskState,
-    keeper: &mut MemKeeper,
-    stamp: u64,
-) -> Result<Bytes, DeskFault>
+fn delegated(desk: &mut DeskState, keeper: &mut MemKeeper, stamp: u64) -> Result<Bytes, DeskFault>
     requires kept { IsKept desk.old }
     requires later { last_stamp desk.old < stamp }
     ensures kept { IsKept desk.new }
