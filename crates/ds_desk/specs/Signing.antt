@@ -50,12 +50,13 @@ if_read (Err place) = None
 -- any scheme, with what the desk needs of it
 abbrev pub desk_scheme : Scheme → Scheme
 desk_scheme s = record s {
-    good = is_good_delegation;
-    good_address = is_good_address;
-    delegation = λ k leaf by c to from until. signed_at (key_of k) leaf by c to from until;
-    spelling = spelling_of_delegation;
-    read_cert = λ bytes. if_read (read_cert bytes);
-    has_leaf = λ k leaf. nat_lt leaf (leaves_of (key_of k)) }
+  good = is_good_delegation;
+  good_address = is_good_address;
+  delegation = λ k leaf by c to from until. signed_at (key_of k) leaf by c to from until;
+  spelling = spelling_of_delegation;
+  read_cert = λ bytes. if_read (read_cert bytes);
+  has_leaf = λ k leaf. nat_lt leaf (leaves_of (key_of k));
+}
 
 -- any host's plan, with this host's key and the identity key that signs for it
 abbrev pub desk_plan : HostPlan → PubKey → Key → HostPlan

@@ -117,7 +117,14 @@ impl DeskState {
             self.refuse(stamp, who, rule);
             return Err(DeskFault::Refused(rule));
         }
-        let draft = draft_of(self.issued.allocator(), self.here, category, to, from, until)?;
+        let draft = draft_of(
+            self.issued.allocator(),
+            self.here,
+            category,
+            to,
+            from,
+            until,
+        )?;
         self.store.reserve()?;
         self.issued.reserve()?;
         match sign_short(&mut self.signer, keeper, draft.part.as_slice()) {

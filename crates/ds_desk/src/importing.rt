@@ -37,15 +37,15 @@ fn delegation_rule(store: &CertList, new: &Delegation) -> Option<Rule>
 }
 
 /// The first rule that refuses an address certificate.
-fn address_rule(addresses: &AddressList, new: &Address) -> Option<Rule>
-    requires { AddressRange new.now }
-    ensures { result ≡ first_rule (unless (is_good_address new.now) rules.BadCert
-        ∷ unless (is_kept_address new.now addresses.now.items || nat_lt (length addresses.now.items) address_limit) rules.StoreFull ∷ []) }
+fn address_rule(addresses: &AddressList, cert: &Address) -> Option<Rule>
+    requires { AddressRange cert.now }
+    ensures { result ≡ first_rule (unless (is_good_address cert.now) rules.BadCert
+        ∷ unless (is_kept_address cert.now addresses.now.items || nat_lt (length addresses.now.items) address_limit) rules.StoreFull ∷ []) }
 {
-    if !new.is_good() {
+    if !cert.is_good() {
         return Some(Rule::BadCert);
     }
-    if addresses.is_kept(new) || addresses.len() < ADDRESS_LIMIT {
+    if addresses.is_kept(cert) || addresses.len() < ADDRESS_LIMIT {
         return None;
     }
     Some(Rule::StoreFull)

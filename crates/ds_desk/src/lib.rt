@@ -10,6 +10,7 @@ mod fault;
 mod history;
 mod importing;
 mod issued;
+mod laws;
 mod mapping;
 mod opening;
 mod state;
@@ -18,5 +19,9 @@ pub use act::{DeskAct, DeskEntry};
 pub use fault::{DeskFault, EntryFault};
 pub use history::DeskHistory;
 pub use issued::IssuedList;
+pub use laws::made_delegations_are_good;
 pub use opening::DeskOpening;
 pub use state::DeskState;
+
+#[cfg(test)]
+mod tests;
