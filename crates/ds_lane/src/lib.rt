@@ -1,0 +1,14 @@
+//! Lanes: the messages that wait for another host, and the worker that frames them. Each call that changes what waits enters
+//! itself.
+#![tactic(auto)]
+
+mod batch;
+mod copying;
+mod entry;
+mod state;
+#[cfg(test)]
+mod tests;
+
+pub use batch::{BodyBatch, Waiting};
+pub use entry::{LaneAct, LaneEntry, LaneSegment};
+pub use state::{LaneState, LiftEnd};
