@@ -1,7 +1,7 @@
 //! Messages that wait on a lane, and a few of them.
 #![tactic(auto)]
 
-ghost use Rattle.std.specs.Prelude.{◌≡◌, ◌≤◌, [], length, slice_get, IfOk, option_copied};
+ghost use Rattle.std.specs.Prelude.{◌≡◌, ◌↔◌, ◌≤◌, IsTrue, [], length, slice_get, IfOk, option_copied};
 
 use ds_msg::Message;
 use std::alloc::{AllocError, Global};
@@ -71,6 +71,13 @@ impl BodyBatch {
         self.items.len()
     }
 
+    /// Whether there is none.
+    pub fn is_empty(&self) -> bool
+        ensures { IsTrue result ↔ (self.now ≡ []) }
+    {
+        self.items.as_slice().is_empty()
+    }
+
     /// The message at a place, from 0.
     pub fn get(&self, place: usize) -> Option<&Waiting>
         ensures { option_copied result ≡ slice_get self.now place }
@@ -80,7 +87,8 @@ impl BodyBatch {
 
     /// All of them, in order.
     pub fn as_slice(&self) -> &[Waiting]
-        ensures { result.now ≡ self.now }
+        ensures items { result.now ≡ self.now }
+        ensures limit { length self.now ≤ 16 }
     {
         self.items.as_slice()
     }

@@ -1,15 +1,19 @@
-//! Lanes that are lifted, full and handed on.
+//! Lanes that are lifted, full and handed on, and workers that frame and drop.
 #![tactic(auto)]
 
 ghost use Rattle.std.specs.Prelude.{◌≡◌, IfOk};
+ghost use Rattle.ds_cert.specs.Ranges.{LaneCertRange};
 ghost use Rattle.ds_lane.specs.Lanes.{IsOn};
 
-use crate::{LaneAct, LaneEntry, LaneState, LiftEnd};
+use crate::{EndAct, EndEntry, LaneAct, LaneEnd, LaneEntry, LaneFault, LaneState, LiftEnd};
+use ds_base::{CalmKeeper, Keeper, MemKeeper};
 use ds_cert::LaneCert;
-use ds_label::{Label, PubKey};
+use ds_label::{Label, PubKey, Rule};
 use ds_msg::{CertBytes, Message};
 use ds_script::{Actor, ActorKind};
 use ds_wire::Bytes;
+use lms_sig::{LmsType, OtsType, Params, TreeKey, derive};
+use lms_state::Signer;
 use std::alloc::{AllocError, Global};
 use std::process::Abort;
 use std::test::Fail;
@@ -29,7 +33,9 @@ const WORKER: Actor = Actor {
 };
 
 /// A certificate of a lane that anyone may read.
-fn cert(alloc: Global) -> LaneCert {
+fn cert(alloc: Global) -> LaneCert
+    ensures { LaneCertRange result }
+{
     LaneCert {
         exporter: PubKey([1; 56]),
         lane: 1,
@@ -133,5 +139,110 @@ fn a_full_lane_drops_the_new_message_and_enters_it(rt: HostRuntime) -> Result<()
     assert_eq!(rt; lift(&mut lane), Ok((1, b'x')));
     assert!(rt; are_shown(lane.history(), &[(3, 3, 1)]));
     lane.is_replay();
+    Ok(())
+}
+
+/// A worker of that lane, whose key has 32 leaves. None where the keeper fails.
+fn worker(alloc: Global, cert: &LaneCert) -> Result<Option<LaneEnd>, AllocError>
+    requires { LaneCertRange cert.now }
+{
+    let params = Params {
+        lms: LmsType::H5,
+        ots: OtsType::W8,
+    };
+    let (seed, id) = derive(&[7; 32], 1);
+    let key = TreeKey::make(alloc, params, seed, id)?;
+    match Signer::resume(key, &mut CalmKeeper::new()) {
+        Ok(signer) => Ok(Some(LaneEnd::new(alloc, WORKER, cert, signer)?)),
+        Err(_) => Ok(None),
+    }
+}
+
+/// Lifts into the worker's hand, at the next stamp. Whether there was something to lift, and the worker could take it.
+fn holds(lane: &mut LaneState, end: &mut LaneEnd) -> Result<bool, AllocError> {
+    lane.reserve()?;
+    let last = lane.last();
+    let fits = end.cert().same(lane.cert()) && end.ready() && end.hand().is_empty();
+    if !fits || last == u64::MAX {
+        return Ok(false);
+    }
+    match lane.lift(last + 1, WORKER) {
+        Ok(batch) => {
+            end.hold(batch);
+            Ok(true)
+        }
+        Err(_) => Ok(false),
+    }
+}
+
+/// Frames what is in hand, if something is.
+fn frame<K: Keeper>(end: &mut LaneEnd, stamp: u64, keeper: &mut K) -> Result<(), LaneFault> {
+    end.reserve()?;
+    if end.hand().is_empty() {
+        return Ok(());
+    }
+    end.frame(stamp, keeper)
+}
+
+/// An entry as its stamp, its number or its sender, and its count or its mailbox.
+fn told(entry: &EndEntry) -> (u64, u32, u32) {
+    match entry.act {
+        EndAct::Framed { number, count } => (entry.stamp, number, count),
+        EndAct::Dropped { from, slot, .. } => (entry.stamp, from, slot),
+    }
+}
+
+/// The worker's entries so told are these, its stream has that many bytes, and its next leaf is that one.
+fn is_told(end: &LaneEnd, entries: &[(u64, u32, u32)], bytes: usize, next: u32) -> bool {
+    end.entries().iter().map(told).eq(entries.iter().copied())
+        && end.stream().len() == bytes
+        && end.next() == next
+}
+
+#[test]
+fn frames_count_the_leaves(rt: HostRuntime) -> Result<(), Fail> {
+    let alloc = rt.alloc();
+    let cert = cert(alloc);
+    let Some(mut end) = worker(alloc, &cert)? else {
+        return Err(Fail::new("not resumed"));
+    };
+    let mut lane = LaneState::new(alloc, cert, 32);
+    for says in 0..17 {
+        admit(&mut lane, alloc, says)?;
+    }
+    let mut keeper = CalmKeeper::new();
+    end = sent(end);
+    // a hello of 198 bytes, and frames of 11 bytes, 74 for each message, and 1,294
+    assert!(rt; is_told(&end, &[], 198, 0));
+    assert!(rt; holds(&mut lane, &mut end)?);
+    assert_eq!(rt; frame(&mut end, 40, &mut keeper), Ok(()));
+    assert!(rt; holds(&mut lane, &mut end)?);
+    assert_eq!(rt; frame(&mut end, 41, &mut keeper), Ok(()));
+    assert!(rt; is_told(&end, &[(40, 0, 16), (41, 1, 1)], 4066, 2));
+    assert!(rt; !holds(&mut lane, &mut end)?);
+    Ok(())
+}
+
+#[test]
+fn a_failing_keeper_leaves_the_hand_which_may_be_dropped(rt: HostRuntime) -> Result<(), Fail> {
+    let alloc = rt.alloc();
+    let cert = cert(alloc);
+    let Some(mut end) = worker(alloc, &cert)? else {
+        return Err(Fail::new("not resumed"));
+    };
+    let mut lane = LaneState::new(alloc, cert, 32);
+    admit(&mut lane, alloc, b'x')?;
+    assert!(rt; holds(&mut lane, &mut end)?);
+    let mut keeper = MemKeeper::new(Vec::new(alloc), [1].to_vec(alloc)?, Vec::new(alloc));
+    assert_eq!(rt;
+        frame(&mut end, 7, &mut keeper),
+        Err(LaneFault::KeeperFault)
+    );
+    assert_eq!(rt; (end.hand().len(), end.who() == WORKER), (1, true));
+    end.reserve()?;
+    end.drop_all(8, Rule::NoAddress);
+    assert!(rt; end.hand().is_empty());
+    assert!(rt; is_told(&end, &[(8, 2, 1)], 198, 0));
+    end.is_holding();
     Ok(())
 }
