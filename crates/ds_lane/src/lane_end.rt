@@ -239,6 +239,7 @@ impl LaneEnd {
         ensures { self.new.worker ≡ dropped stamp rule self.old.worker }
     {
         enter_dropped(&mut self.entries, stamp, rule, self.hand.as_slice());
-        self.hand = BodyBatch::new(self.alloc);
+        let none = BodyBatch::new(self.alloc);
+        self.hand = none;
     }
 }
