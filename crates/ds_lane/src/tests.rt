@@ -153,7 +153,7 @@ fn worker(alloc: Global, cert: &LaneCert) -> Result<Option<LaneEnd>, AllocError>
     let (seed, id) = derive(&[7; 32], 1);
     let key = TreeKey::make(alloc, params, seed, id)?;
     match Signer::resume(key, &mut CalmKeeper::new()) {
-        Ok(signer) => Ok(Some(LaneEnd::new(alloc, WORKER, cert, signer)?)),
+        Ok(signer) => Ok(Some(sent(LaneEnd::new(alloc, WORKER, cert, signer)?))),
         Err(_) => Ok(None),
     }
 }
@@ -199,6 +199,39 @@ fn is_told(end: &LaneEnd, entries: &[(u64, u32, u32)], bytes: usize, next: u32) 
         && end.next() == next
 }
 
+/// A lane of 32 places with that many messages.
+fn filled(alloc: Global, cert: LaneCert, count: u8) -> Result<LaneState, AllocError> {
+    let mut lane = LaneState::new(alloc, cert, 32);
+    for says in 0..count {
+        admit(&mut lane, alloc, says)?;
+    }
+    Ok(lane)
+}
+
+/// Lifts and frames. Whether there was something to lift.
+fn frames(lane: &mut LaneState, end: &mut LaneEnd, stamp: u64) -> Result<bool, LaneFault> {
+    if !holds(lane, end)? {
+        return Ok(false);
+    }
+    frame(end, stamp, &mut CalmKeeper::new())?;
+    Ok(true)
+}
+
+/// A keeper that fails leaves what is in hand.
+fn keeps_hand(alloc: Global, end: &mut LaneEnd) -> Result<bool, AllocError> {
+    let mut keeper = MemKeeper::new(Vec::new(alloc), [1].to_vec(alloc)?, Vec::new(alloc));
+    let answer = frame(end, 7, &mut keeper);
+    Ok(answer == Err(LaneFault::KeeperFault) && end.hand().len() == 1)
+}
+
+/// Drops what is in hand.
+fn drops(end: &mut LaneEnd) -> Result<bool, AllocError> {
+    end.reserve()?;
+    end.is_holding();
+    end.drop_all(8, Rule::NoAddress);
+    Ok(end.hand().is_empty() && end.who() == WORKER)
+}
+
 #[test]
 fn frames_count_the_leaves(rt: HostRuntime) -> Result<(), Fail> {
     let alloc = rt.alloc();
@@ -206,20 +239,12 @@ fn frames_count_the_leaves(rt: HostRuntime) -> Result<(), Fail> {
     let Some(mut end) = worker(alloc, &cert)? else {
         return Err(Fail::new("not resumed"));
     };
-    let mut lane = LaneState::new(alloc, cert, 32);
-    for says in 0..17 {
-        admit(&mut lane, alloc, says)?;
+    let mut lane = filled(alloc, cert, 17)?;
+    for (stamp, framed) in [(40, true), (41, true), (42, false)] {
+        assert_eq!(rt; frames(&mut lane, &mut end, stamp), Ok(framed));
     }
-    let mut keeper = CalmKeeper::new();
-    end = sent(end);
     // a hello of 198 bytes, and frames of 11 bytes, 74 for each message, and 1,294
-    assert!(rt; is_told(&end, &[], 198, 0));
-    assert!(rt; holds(&mut lane, &mut end)?);
-    assert_eq!(rt; frame(&mut end, 40, &mut keeper), Ok(()));
-    assert!(rt; holds(&mut lane, &mut end)?);
-    assert_eq!(rt; frame(&mut end, 41, &mut keeper), Ok(()));
     assert!(rt; is_told(&end, &[(40, 0, 16), (41, 1, 1)], 4066, 2));
-    assert!(rt; !holds(&mut lane, &mut end)?);
     Ok(())
 }
 
@@ -230,19 +255,10 @@ fn a_failing_keeper_leaves_the_hand_which_may_be_dropped(rt: HostRuntime) -> Res
     let Some(mut end) = worker(alloc, &cert)? else {
         return Err(Fail::new("not resumed"));
     };
-    let mut lane = LaneState::new(alloc, cert, 32);
-    admit(&mut lane, alloc, b'x')?;
+    let mut lane = filled(alloc, cert, 1)?;
     assert!(rt; holds(&mut lane, &mut end)?);
-    let mut keeper = MemKeeper::new(Vec::new(alloc), [1].to_vec(alloc)?, Vec::new(alloc));
-    assert_eq!(rt;
-        frame(&mut end, 7, &mut keeper),
-        Err(LaneFault::KeeperFault)
-    );
-    assert_eq!(rt; (end.hand().len(), end.who() == WORKER), (1, true));
-    end.reserve()?;
-    end.drop_all(8, Rule::NoAddress);
-    assert!(rt; end.hand().is_empty());
+    assert!(rt; keeps_hand(alloc, &mut end)?);
+    assert!(rt; drops(&mut end)?);
     assert!(rt; is_told(&end, &[(8, 2, 1)], 198, 0));
-    end.is_holding();
     Ok(())
 }
