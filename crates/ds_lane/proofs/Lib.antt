@@ -1,0 +1,3 @@
+pub mod Fronts
+pub mod Grows
+pub mod Sizes

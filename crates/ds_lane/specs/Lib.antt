@@ -1,0 +1,4 @@
+pub mod Lanes
+pub mod Sound
+pub mod Ends
+pub mod Held
