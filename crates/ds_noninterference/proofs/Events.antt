@@ -103,18 +103,18 @@ module _ (s : Scheme) (c : Category) (trusted : List ℕ) (plan : Plan) where
 
   -- what a lane's own connection reads first is the lane's certificate
 
-  module _ (is : IsScheme s) (w : World) (kept : Kept s c trusted plan w) where
-    lane_peer : (h l n : ℕ) (here : HostPlan) (o : Option Worker) → ((e : Worker) → o ≡ Some e → (rest : List ℕ) × (e.stream ≡ s.hello (lane_plan (host_plan plan h) l).cert ++ rest)) → (peer s here (take n (stream_from o)) ≡ None) ⊎ (peer s here (take n (stream_from o)) ≡ Some (lane_plan (host_plan plan h) l).cert)
-    lane_peer h l n here None streams = subst (λ bytes. (peer s here bytes ≡ None) ⊎ (peer s here bytes ≡ Some (lane_plan (host_plan plan h) l).cert)) (sym (take_none n)) (is.hello_first here (lane_plan (host_plan plan h) l).cert [] 0)
-    lane_peer h l n here (Some e) streams = let r : (rest : List ℕ) × (e.stream ≡ s.hello (lane_plan (host_plan plan h) l).cert ++ rest) = streams e refl in
-        subst (λ bytes. (peer s here (take n bytes) ≡ None) ⊎ (peer s here (take n bytes) ≡ Some (lane_plan (host_plan plan h) l).cert)) (sym r.1) (is.hello_first here (lane_plan (host_plan plan h) l).cert r.0 n)
+  module _ (is : IsScheme s plan) (w : World) (kept : Kept s c trusted plan w) where
+    lane_peer : (h l n : ℕ) → IsLane plan h l → (here : HostPlan) (o : Option Worker) → ((e : Worker) → o ≡ Some e → (rest : List ℕ) × (e.stream ≡ s.hello (lane_plan (host_plan plan h) l).cert ++ rest)) → (peer s here (take n (stream_from o)) ≡ None) ⊎ (peer s here (take n (stream_from o)) ≡ Some (lane_plan (host_plan plan h) l).cert)
+    lane_peer h l n real here None streams = subst (λ bytes. (peer s here bytes ≡ None) ⊎ (peer s here bytes ≡ Some (lane_plan (host_plan plan h) l).cert)) (sym (take_none n)) (is.hello_first h l real here [] 0)
+    lane_peer h l n real here (Some e) streams = let r : (rest : List ℕ) × (e.stream ≡ s.hello (lane_plan (host_plan plan h) l).cert ++ rest) = streams e refl in
+        subst (λ bytes. (peer s here (take n bytes) ≡ None) ⊎ (peer s here (take n bytes) ≡ Some (lane_plan (host_plan plan h) l).cert)) (sym r.1) (is.hello_first h l real here r.0 n)
 
     sender_stream : (h l : ℕ) (o : Option Host) → slice_get w.hosts h ≡ o → (e : Worker) → worker_at o l ≡ Some e → (rest : List ℕ) × (e.stream ≡ s.hello (lane_plan (host_plan plan h) l).cert ++ rest)
     sender_stream h l None q e there = absurd (grind arith)
     sender_stream h l (Some x) q e there = (kept.hosts h x q).streams l e there
 
-    pub own_peer : (h l : ℕ) (here : HostPlan) (y : Conn) (cert : LaneCert) → peer s here (arrived w (OfLane h l) y) ≡ Some cert → cert ≡ (lane_plan (host_plan plan h) l).cert
-    own_peer h l here y cert e = go (lane_peer h l y.count here (worker_at (slice_get w.hosts h) l) (sender_stream h l (slice_get w.hosts h) refl))
+    pub own_peer : (h l : ℕ) → IsLane plan h l → (here : HostPlan) (y : Conn) (cert : LaneCert) → peer s here (arrived w (OfLane h l) y) ≡ Some cert → cert ≡ (lane_plan (host_plan plan h) l).cert
+    own_peer h l real here y cert e = go (lane_peer h l y.count real here (worker_at (slice_get w.hosts h) l) (sender_stream h l (slice_get w.hosts h) refl))
       where
         go : (peer s here (arrived w (OfLane h l) y) ≡ None) ⊎ (peer s here (arrived w (OfLane h l) y) ≡ Some (lane_plan (host_plan plan h) l).cert) → cert ≡ (lane_plan (host_plan plan h) l).cert
         go (inl n) = absurd (grind arith)
@@ -126,7 +126,7 @@ module _ (s : Scheme) (c : Category) (trusted : List ℕ) (plan : Plan) where
       high_number : (source : Source) (i n : ℕ) (fresh stale : Conn) → (wire plan k).source ≡ source → high_source c trusted plan (wire plan k).host source ≡ true → NumberFacts s (host_plan plan (wire plan k).host) y (arrived w source y) i fresh stale → HighInlet c trusted plan (wire plan k).host i
       high_number Link i n fresh stale q high f = absurd (grind arith)
       high_number (OfLane h l) i n fresh stale q high f =
-          let own : f.cert ≡ (lane_plan (host_plan plan h) l).cert = own_peer h l (host_plan plan (wire plan k).host) y f.cert f.read in
+          let own : f.cert ≡ (lane_plan (host_plan plan h) l).cert = own_peer h l (fits.real k h l q) (host_plan plan (wire plan k).host) y f.cert f.read in
           let found : ((inlet_name (host_plan plan (wire plan k).host) i).exporter ≡ f.cert.exporter) × ((inlet_name (host_plan plan (wire plan k).host) i).lane ≡ f.cert.lane) = inlet_found (host_plan plan (wire plan k).host) f.cert i f.inlet in
           record {
             host = h;
@@ -161,7 +161,7 @@ module _ (s : Scheme) (c : Category) (trusted : List ℕ) (plan : Plan) where
             sound.unforged.frames k y f.cert f.place f.number f.messages there q f.read f.frame hi.host hi.lane hi.high
             (ap (λ z. z.key) u.3 ∙ ap₂ (λ a b. (lane_plan (host_plan plan a) b).cert.key) same.0 same.1)
         low_number (OfLane h l) i n fresh stale q low f hi =
-            let own : f.cert ≡ (lane_plan (host_plan plan h) l).cert = own_peer h l (host_plan plan (wire plan k).host) y f.cert f.read in
+            let own : f.cert ≡ (lane_plan (host_plan plan h) l).cert = own_peer h l (fits.real k h l q) (host_plan plan (wire plan k).host) y f.cert f.read in
             let found : ((inlet_name (host_plan plan (wire plan k).host) i).exporter ≡ f.cert.exporter) × ((inlet_name (host_plan plan (wire plan k).host) i).lane ≡ f.cert.lane) = inlet_found (host_plan plan (wire plan k).host) f.cert i f.inlet in
             let same : (h ≡ hi.host) × (l ≡ hi.lane) = fits.lanes hi.host hi.lane h l hi.high (fits.real k h l q) (ap (λ z. z.exporter) (sym own) ∙ sym (hi.by ∙ found.0)) (ap (λ z. z.lane) (sym own) ∙ sym (hi.number ∙ found.1)) in
             not_both (high_source c trusted plan (wire plan k).host (OfLane h l)) (and_both _ _ (ap₂ (λ a b. high_lane c trusted plan a b) same.0 same.1 ∙ hi.high) hi.here) low
@@ -175,7 +175,7 @@ module _ (s : Scheme) (c : Category) (trusted : List ℕ) (plan : Plan) where
 
   -- an event with mark High leaves all that isn't High
 
-  module _ (is : IsScheme s) (secret : is_secrecy c.kind ≡ true) (fits : Setting c trusted plan) (w : World) (kept : Kept s c trusted plan w) where
+  module _ (is : IsScheme s plan) (secret : is_secrecy c.kind ≡ true) (fits : Setting c trusted plan) (w : World) (kept : Kept s c trusted plan w) where
     quiet_step_conn : (k : ℕ) (asks : Conn → ConnAsk) → ((y : Conn) → ConnFacts s (host_plan plan (wire plan k).host) y (arrived w (wire plan k).source y) (asks y)) → high_conn c trusted plan k ≡ true →
         (o : Option Host) (q : Option Conn) → slice_get w.hosts (wire plan k).host ≡ o → slice_get w.conns k ≡ q → AlikeWorlds c trusted plan w (step_conn s plan w (wire plan k).host k asks o q)
     quiet_step_conn k asks facts high (Some x) (Some y) there there' = quiet_ends w (wire plan k).host k x _ there high
@@ -195,7 +195,7 @@ module _ (s : Scheme) (c : Category) (trusted : List ℕ) (plan : Plan) where
 
   -- an event that isn't High, on both sides
 
-  module _ (is : IsScheme s) (secret : is_secrecy c.kind ≡ true) (fits : Setting c trusted plan) (v w : World) (alike : AlikeWorlds c trusted plan v w) where
+  module _ (is : IsScheme s plan) (secret : is_secrecy c.kind ≡ true) (fits : Setting c trusted plan) (v w : World) (alike : AlikeWorlds c trusted plan v w) where
     same_sender : (k h l : ℕ) (o q : Option Host) → AlikeAt c trusted plan h o q → (wire plan k).source ≡ OfLane h l → high_source c trusted plan (wire plan k).host (OfLane h l) ≡ false → worker_at o l ≡ worker_at q l
     same_sender k h l None None r e low = refl
     same_sender k h l None (Some y) r e low = absurd r

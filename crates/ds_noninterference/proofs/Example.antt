@@ -69,8 +69,8 @@ all_unforged : (w : World) (events : List Event) → Unforged empty_scheme a_sec
 all_unforged w [] = (unforged w, tt)
 all_unforged w (e ∷ events) = (unforged w, all_unforged (step empty_scheme pair w e) events)
 
-scheme : IsScheme empty_scheme
-scheme = record { closed = λ certs moment c inside start more key held. absurd (false_true held); hello_first = λ plan lane rest n. inl refl }
+scheme : IsScheme empty_scheme pair
+scheme = record { closed = λ certs moment c inside start more key held. absurd (false_true held); hello_first = λ h l is here rest n. inl refl }
 
 -- the plan has no lane
 

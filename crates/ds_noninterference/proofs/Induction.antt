@@ -73,7 +73,7 @@ now : (s : Scheme) (plan : Plan) (P : World → Type 0) (w : World) (events : Li
 now s plan P w [] a = a.0
 now s plan P w (e ∷ events) a = a.0
 
-module _ (s : Scheme) (is : IsScheme s) (c : Category) (secret : is_secrecy c.kind ≡ true) (trusted : List ℕ) (plan : Plan) (fits : Setting c trusted plan) where
+module _ (s : Scheme) (c : Category) (secret : is_secrecy c.kind ≡ true) (trusted : List ℕ) (plan : Plan) (is : IsScheme s plan) (fits : Setting c trusted plan) where
   -- one step on the second side, with mark High
   on_second : (v w : World) (e : Event) → AlikeWorlds c trusted plan v w → Kept s c trusted plan w → mark c trusted plan w e ≡ High → AlikeWorlds c trusted plan v (step s plan w e)
   on_second v w e r kept m = join_worlds c trusted plan v w (step s plan w e) r (quiet_event s c trusted plan is secret fits w kept (resolve plan w e) m)
@@ -82,7 +82,7 @@ module _ (s : Scheme) (is : IsScheme s) (c : Category) (secret : is_secrecy c.ki
   on_first v w e r kept m = join_worlds c trusted plan (step s plan v e) v w (flip_worlds c trusted plan v (step s plan v e) (quiet_event s c trusted plan is secret fits v kept (resolve plan v e) m)) r
 
   keep : (w : World) (e : Event) → Kept s c trusted plan w → Sound s c trusted plan w → Kept s c trusted plan (step s plan w e)
-  keep w e kept sound = keep_event s is c secret trusted plan fits w kept sound (resolve plan w e)
+  keep w e kept sound = keep_event s c secret trusted plan is fits w kept sound (resolve plan w e)
 
   -- one step on both sides, with equal marks
   on_both : (v w : World) (e f : Event) → AlikeWorlds c trusted plan v w → Kept s c trusted plan v → Sound s c trusted plan v → mark c trusted plan v e ≡ mark c trusted plan w f → mark c trusted plan v e ≢ High → AlikeWorlds c trusted plan (step s plan v e) (step s plan w f)

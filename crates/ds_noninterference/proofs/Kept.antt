@@ -70,7 +70,7 @@ each_none test rule c (x ∷ label) sec e h =
     go u ih (inl q) = kind (is_secrecy c.kind) sec (subst (λ z. (not (is_secrecy z.kind) || test z) ≡ true) (sym (same_category_is c x q)) u)
     go u ih (inr q) = ih q
 
-module _ (s : Scheme) (is : IsScheme s) (c : Category) (secret : is_secrecy c.kind ≡ true) (trusted : List ℕ) (plan : Plan) (fits : Setting c trusted plan) where
+module _ (s : Scheme) (c : Category) (secret : is_secrecy c.kind ≡ true) (trusted : List ℕ) (plan : Plan) (is : IsScheme s plan) (fits : Setting c trusted plan) where
   -- each key that holds c by a store is a trusted host's
   pub store_safe : (w : World) → Sound s c trusted plan w → (h : ℕ) (x : Host) → slice_get w.hosts h ≡ Some x → (t : ℕ) (key : PubKey) → s.holds x.desk.store t c key ≡ true → IsTrusted trusted plan key
   store_safe w sound h x e t key held = is.closed x.desk.store t c (trusted_key trusted plan) fits.creator

@@ -31,7 +31,7 @@ use Rattle.ds_noninterference.proofs.Setting.{Setting, Sound}
 some_eq : {X : Type 0} (u v : X) → Some u ≡ Some v → u ≡ v
 some_eq u v e = cc
 
-module _ (s : Scheme) (is : IsScheme s) (c : Category) (secret : is_secrecy c.kind ≡ true) (trusted : List ℕ) (plan : Plan) (fits : Setting c trusted plan) (w : World) (kept : Kept s c trusted plan w) (sound : Sound s c trusted plan w) where
+module _ (s : Scheme) (c : Category) (secret : is_secrecy c.kind ≡ true) (trusted : List ℕ) (plan : Plan) (is : IsScheme s plan) (fits : Setting c trusted plan) (w : World) (kept : Kept s c trusted plan w) (sound : Sound s c trusted plan w) where
   keep_on_host : (h : ℕ) (f : Host → Host) → ((x : Host) → slice_get w.hosts h ≡ Some x → KeptHost s c trusted plan h x → KeptHost s c trusted plan h (f x)) → Kept s c trusted plan (on_host h f w)
   keep_on_host h f k = record { hosts = all_at (KeptHost s c trusted plan) h f w.hosts (λ j x n e. kept.hosts j x e) (λ x e. k x e (kept.hosts h x e)); conns = kept.conns }
 
@@ -71,15 +71,15 @@ module _ (s : Scheme) (is : IsScheme s) (c : Category) (secret : is_secrecy c.ki
       go h t = by_flow h (flows by_name m.label (box_plan here b).label []) refl t
 
   module _ (k : ℕ) (x : Host) (y : Conn) (there : slice_get w.conns k ≡ Some y) where
-    source_label : (source : Source) (here : HostPlan) (cert : LaneCert) → high_source c trusted plan (wire plan k).host source ≡ true → peer s here (arrived w source y) ≡ Some cert → has by_name c cert.label ≡ true
-    source_label Link here cert high e = absurd (grind arith)
-    source_label (OfLane h l) here cert high e = subst (λ z. has by_name c z.label ≡ true) (sym (own_peer s c trusted plan is w kept h l here y cert e)) (and_right _ _ (and_left _ _ high))
+    source_label : (source : Source) → (wire plan k).source ≡ source → (here : HostPlan) (cert : LaneCert) → high_source c trusted plan (wire plan k).host source ≡ true → peer s here (arrived w source y) ≡ Some cert → has by_name c cert.label ≡ true
+    source_label Link q here cert high e = absurd (grind arith)
+    source_label (OfLane h l) q here cert high e = subst (λ z. has by_name c z.label ≡ true) (sym (own_peer s c trusted plan is w kept h l (fits.real k h l q) here y cert e)) (and_right _ _ (and_left _ _ high))
 
     told_kept : (cert : LaneCert) (m : Message) (rest : List Message) (o : Option Rule) → judge_delivery s (host_plan plan (wire plan k).host) x.desk cert m ≡ o → peer s (host_plan plan (wire plan k).host) (arrived w (wire plan k).source y) ≡ Some cert → KeptConn c trusted plan k (told_delivery m rest o y)
     told_kept cert m rest (Some rule) j e = λ high m' b p q. kept.conns k y there high m' b p q
     told_kept cert m rest None j e = λ high m' b p q.
         let same : m ≡ m' = some_eq m m' p in
-        judged_box (host_plan plan (wire plan k).host) x.desk cert m b (source_label (wire plan k).source (host_plan plan (wire plan k).host) cert high e) j (ap (λ z. box_of (host_plan plan (wire plan k).host) z.slot) same ∙ q)
+        judged_box (host_plan plan (wire plan k).host) x.desk cert m b (source_label (wire plan k).source refl (host_plan plan (wire plan k).host) cert high e) j (ap (λ z. box_of (host_plan plan (wire plan k).host) z.slot) same ∙ q)
 
     same_kept : (next : Conn) → next.passed ≡ y.passed → KeptConn c trusted plan k next
     same_kept next e = λ high m b p q. kept.conns k y there high m b (sym e ∙ p) q
@@ -111,8 +111,8 @@ module _ (s : Scheme) (is : IsScheme s) (c : Category) (secret : is_secrecy c.ki
   injected_same (OfLane h l) bytes y = refl
 
   pub keep_event : (e : Event) → Kept s c trusted plan (happens s plan w e)
-  keep_event (Step h p) = keep_on_host h _ (λ x e k. keep_proc s is c secret trusted plan fits w sound h x e k p (slice_get x.procs p) refl)
-  keep_event (Frame h l) = keep_on_host h _ (λ x e k. keep_lane s is c secret trusted plan fits w sound h x e k l (slice_get x.workers l))
+  keep_event (Step h p) = keep_on_host h _ (λ x e k. keep_proc s c secret trusted plan is fits w sound h x e k p (slice_get x.procs p) refl)
+  keep_event (Frame h l) = keep_on_host h _ (λ x e k. keep_lane s c secret trusted plan is fits w sound h x e k l (slice_get x.workers l))
   keep_event (Arrive k n) = keep_on_conn k _ (λ y e. refl)
   keep_event (Accept k) = keep_conn k _ (λ y. accept_facts s (host_plan plan (wire plan k).host) y (arrived w (wire plan k).source y)) _ _ refl refl
   keep_event (Deliver k) = keep_conn k _ (λ y. deliver_facts s (host_plan plan (wire plan k).host) y (arrived w (wire plan k).source y)) _ _ refl refl

@@ -48,7 +48,7 @@ seen : {X : Type 0} {a b : Bool} {x y : X} → Alike a b x y → a ≡ false →
 seen (inl e) low = e
 seen (inr h) low = absurd (not_both _ h.0 low)
 
-module _ (s : Scheme) (is : IsScheme s) (c : Category) (secret : is_secrecy c.kind ≡ true) (trusted : List ℕ) (plan : Plan) (fits : Setting c trusted plan) (f : Format) where
+module _ (s : Scheme) (c : Category) (secret : is_secrecy c.kind ≡ true) (trusted : List ℕ) (plan : Plan) (is : IsScheme s plan) (fits : Setting c trusted plan) (f : Format) where
   shown : (h l : ℕ) {X : Type 0} {x y : X} → high_lane c trusted plan h l ≡ false → (x ≡ y) ⊎ Hidden c trusted plan h l → x ≡ y
   shown h l low (inl e) = e
   shown h l low (inr hidden) = absurd (not_both _ hidden.high low)
@@ -105,4 +105,4 @@ module _ (s : Scheme) (is : IsScheme s) (c : Category) (secret : is_secrecy c.ki
         (sections_same _ _ _ _ (length plan.wires) (λ k. refl) same_conn_sections))
 
 pub outside : AtEnd SameSections
-outside s c trusted plan v w one two p f = same_outside s p.scheme c p.secret trusted plan (setting s c trusted plan v one p.fits p.obeys_one) f (run s plan v one) (run s plan w two) (laws s c trusted plan v w one two p)
+outside s c trusted plan v w one two p f = same_outside s c p.secret trusted plan p.scheme (setting s c trusted plan v one p.fits p.obeys_one) f (run s plan v one) (run s plan w two) (laws s c trusted plan v w one two p)

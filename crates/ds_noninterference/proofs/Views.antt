@@ -32,7 +32,7 @@ source_low c trusted plan r (OfLane h l) low = go (high_lane c trusted plan h l)
 
 -- WHAT PROCESSES AND HOSTS SEE
 
-module _ (s : Scheme) (is : IsScheme s) (c : Category) (secret : is_secrecy c.kind ≡ true) (trusted : List ℕ) (plan : Plan) (fits : Setting c trusted plan) where
+module _ (s : Scheme) (c : Category) (secret : is_secrecy c.kind ≡ true) (trusted : List ℕ) (plan : Plan) (is : IsScheme s plan) (fits : Setting c trusted plan) where
   proc_same : (h p : ℕ) (o q : Option Host) → AlikeAt c trusted plan h o q → high_at c (is_in trusted h) (proc_in o p) ≡ false → proc_in o p ≡ proc_in q p
   proc_same h p None None r low = refl
   proc_same h p None (Some y) r low = absurd r
@@ -78,19 +78,19 @@ module _ (s : Scheme) (is : IsScheme s) (c : Category) (secret : is_secrecy c.ki
 pub laws : AtEnd AlikeWorlds
 laws s c trusted plan v w one two p =
     let fits : Setting c trusted plan = setting s c trusted plan v one p.fits p.obeys_one in
-    law s p.scheme c p.secret trusted plan fits one two v w p.agree.start
-    (start_kept s p.scheme c p.secret trusted plan fits v p.start_one) (start_kept s p.scheme c p.secret trusted plan fits w p.start_two)
+    law s c p.secret trusted plan p.scheme fits one two v w p.agree.start
+    (start_kept s c p.secret trusted plan p.scheme fits v p.start_one) (start_kept s c p.secret trusted plan p.scheme fits w p.start_two)
     (sound_along s c trusted plan v one p.obeys_one.issues p.unforged_one) (sound_along s c trusted plan w two p.obeys_two.issues p.unforged_two)
     p.agree.same_marks
 
 pub processes : AtEnd SameProcesses
-processes s c trusted plan v w one two p = proc_views s p.scheme c p.secret trusted plan (setting s c trusted plan v one p.fits p.obeys_one) (run s plan v one) (run s plan w two) (laws s c trusted plan v w one two p)
+processes s c trusted plan v w one two p = proc_views s c p.secret trusted plan p.scheme (setting s c trusted plan v one p.fits p.obeys_one) (run s plan v one) (run s plan w two) (laws s c trusted plan v w one two p)
 
 pub hosts : AtEnd SameHosts
-hosts s c trusted plan v w one two p = host_views s p.scheme c p.secret trusted plan (setting s c trusted plan v one p.fits p.obeys_one) (run s plan v one) (run s plan w two) (laws s c trusted plan v w one two p)
+hosts s c trusted plan v w one two p = host_views s c p.secret trusted plan p.scheme (setting s c trusted plan v one p.fits p.obeys_one) (run s plan v one) (run s plan w two) (laws s c trusted plan v w one two p)
 
 pub desks : AtEnd SameDesks
-desks s c trusted plan v w one two p = desk_views s p.scheme c p.secret trusted plan (setting s c trusted plan v one p.fits p.obeys_one) (run s plan v one) (run s plan w two) (laws s c trusted plan v w one two p)
+desks s c trusted plan v w one two p = desk_views s c p.secret trusted plan p.scheme (setting s c trusted plan v one p.fits p.obeys_one) (run s plan v one) (run s plan w two) (laws s c trusted plan v w one two p)
 
 pub arrivals : AtEnd SameArrivals
-arrivals s c trusted plan v w one two p = arrived_views s p.scheme c p.secret trusted plan (setting s c trusted plan v one p.fits p.obeys_one) (run s plan v one) (run s plan w two) (laws s c trusted plan v w one two p)
+arrivals s c trusted plan v w one two p = arrived_views s c p.secret trusted plan p.scheme (setting s c trusted plan v one p.fits p.obeys_one) (run s plan v one) (run s plan w two) (laws s c trusted plan v w one two p)

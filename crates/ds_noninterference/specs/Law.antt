@@ -22,7 +22,7 @@ pub record Agree (s : Scheme) (c : Category) (trusted : List ℕ) (plan : Plan) 
 
 -- two runs that agree, for a secrecy category, from setup, of trusted hosts that obey, with nothing forged
 pub record Premises (s : Scheme) (c : Category) (trusted : List ℕ) (plan : Plan) (v w : World) (one two : List Event) : Type 0 where
-  pub scheme : IsScheme s
+  pub scheme : IsScheme s plan
   pub secret : is_secrecy c.kind ≡ true
   pub fits : Fits plan
   pub start_one : AtStart s plan v

@@ -13,15 +13,16 @@ use Rattle.ds_model.specs.Step.{Event, arrived}
 use Rattle.ds_noninterference.specs.High.{is_in, high_lane, IsTrusted}
 use Rattle.ds_noninterference.specs.Marks.{Along}
 
--- THE SCHEME: the facts of chains and of spelling that the law uses. They are theorems of the concrete scheme.
-pub record IsScheme (s : Scheme) : Type 0 where
+-- THE SCHEME: the facts of chains, and of the spelling of the plan's lanes, that the law uses. They are theorems of the concrete scheme.
+pub record IsScheme (s : Scheme) (plan : Plan) : Type 0 where
   -- a set of keys that has the creator's, and with the signer of each good delegation its receiver, has every holder
   pub closed : (certs : List Delegation) (moment : ℕ) (c : Category) (inside : PubKey → Bool) → inside c.creator ≡ true →
       ((d : Delegation) → Contains certs d → d.category ≡ c → s.good d ≡ true → inside d.by ≡ true → inside d.to ≡ true) →
       (key : PubKey) → s.holds certs moment c key ≡ true → inside key ≡ true
-  -- of a stream that begins with a hello, cut anywhere, nothing else is read first
-  pub hello_first : (plan : HostPlan) (lane : LaneCert) (rest : List ℕ) (n : ℕ) →
-      (peer s plan (take n (s.hello lane ++ rest)) ≡ None) ⊎ (peer s plan (take n (s.hello lane ++ rest)) ≡ Some lane)
+  -- of a stream that begins with the hello of a lane of the plan, cut anywhere, nothing else is read first
+  pub hello_first : (h l : ℕ) → IsLane plan h l → (here : HostPlan) (rest : List ℕ) (n : ℕ) →
+      (peer s here (take n (s.hello (lane_plan (host_plan plan h) l).cert ++ rest)) ≡ None)
+      ⊎ (peer s here (take n (s.hello (lane_plan (host_plan plan h) l).cert ++ rest)) ≡ Some (lane_plan (host_plan plan h) l).cert)
 
 -- SETUP: what it sees to, in every plan
 pub record Fits (plan : Plan) : Type 0 where
