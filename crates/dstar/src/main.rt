@@ -2,6 +2,8 @@
 #![tactic(auto)]
 
 mod call;
+#[cfg(test)]
+mod command_tests;
 mod document;
 mod input;
 mod mailbox;
