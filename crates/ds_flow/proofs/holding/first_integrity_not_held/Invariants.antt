@@ -1,0 +1,8 @@
+use Rattle.std.proofs.Common.{◌≡◌, ◌++◌, drop}
+use Rattle.ds_label.specs.declared.rule.Rule.TheVariants as rules
+use Rattle.ds_model.specs.FirstRule.{each_member}
+use Rattle.ds_flow.specs.Asked.{holds_integrity}
+use Rattle.ds_flow.proofs.holding.first_integrity_not_held.Given as goal
+
+abbrev pub invariant-loop-c : goal.invariant-loop-c
+invariant-loop-c l = each_member (holds_integrity (l.store.items ++ l.extra.items) l.now l.by) rules.SenderNotTrusted (drop l.c-index l.label) ≡ each_member (holds_integrity (l.store.items ++ l.extra.items) l.now l.by) rules.SenderNotTrusted l.label

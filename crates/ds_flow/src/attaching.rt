@@ -1,0 +1,138 @@
+//! The certificates that go with a message.
+
+ghost use Rattle.std.specs.Prelude.{◌≡◌, ◌++◌, [], ◌∷◌, map, filter, IfOk, OnOk};
+ghost use Rattle.ds_cert.specs.Spelling.{spelling_of_delegation};
+ghost use Rattle.ds_model.specs.ExporterRules.{attach, attach_all, with_attached};
+ghost use Rattle.ds_model.specs.Scheme.{Scheme};
+ghost use Rattle.ds_flow.specs.Asked.{attach_each, is_integrity, spelled_chain};
+ghost use Rattle.ds_flow.specs.Chains.{at_places, flow_scheme};
+
+use ds_chain::{CertList, search};
+use ds_label::{Category, Kind, Label, PubKey};
+use ds_msg::CertBytes;
+use ds_wire::Bytes;
+use std::alloc::{AllocError, Global};
+
+/// The most certificates of a message.
+const ATTACH_LIMIT: usize = 16;
+
+/// Appends a spelled certificate, unless it is there or there are 16.
+fn add(certs: &mut CertBytes, spelled: Bytes) -> Result<(), AllocError>
+    ensures { OnOk result (certs.new ≡ with_attached spelled certs.old) }
+{
+    if certs.has(spelled.as_slice()) || certs.len() >= ATTACH_LIMIT {
+        return Ok(());
+    }
+    certs.push(spelled)
+}
+
+/// Attaches the delegation at a place, where there is one.
+fn attach_place(certs: &mut CertBytes, store: &CertList, place: u32) -> Result<(), AllocError>
+    ensures { OnOk result (certs.new ≡ attach_all certs.old (map spelling_of_delegation (at_places store.now.items (place ∷ [])))) }
+{
+    let Some(cert) = store.get(place as usize) else {
+        return Ok(());
+    };
+    add(certs, cert.encode()?)
+}
+
+/// Attaches the delegations at these places.
+fn attach_places(certs: &mut CertBytes, store: &CertList, places: &[u32]) -> Result<(), AllocError>
+    ensures { OnOk result (certs.new ≡ attach_all certs.old (map spelling_of_delegation (at_places store.now.items places.now))) }
+{
+    for place in places {
+        attach_place(certs, store, *place)?;
+    }
+    Ok(())
+}
+
+/// Attaches the delegations of the shortest chain by which the exporter `here` holds the category.
+fn attach_chain(
+    alloc: Global,
+    certs: &mut CertBytes,
+    store: &CertList,
+    now: u64,
+    here: &PubKey,
+    category: &Category,
+) -> Result<(), AllocError>
+    ensures { OnOk result (certs.new ≡ attach_all certs.old (spelled_chain store.now.items now here.now category.now)) }
+{
+    let none = CertList::new(alloc);
+    match search(alloc, store, &none, now, category, here)? {
+        None => Ok(()),
+        Some(chain) => attach_places(certs, store, chain.places()),
+    }
+}
+
+/// Attaches what shows that the exporter `here` holds each of these categories.
+fn attach_members(
+    alloc: Global,
+    certs: &mut CertBytes,
+    store: &CertList,
+    now: u64,
+    here: &PubKey,
+    members: &[Category],
+) -> Result<(), AllocError>
+    ensures { OnOk result (certs.new ≡ attach_each (spelled_chain store.now.items now here.now) certs.old members.now) }
+{
+    for c in members {
+        attach_chain(alloc, certs, store, now, here, c)?;
+    }
+    Ok(())
+}
+
+/// The same for the integrity categories of a label.
+fn attach_integrity(
+    alloc: Global,
+    certs: &mut CertBytes,
+    store: &CertList,
+    now: u64,
+    here: &PubKey,
+    label: &[Category],
+) -> Result<(), AllocError>
+    ensures { OnOk result (certs.new ≡ attach_each (spelled_chain store.now.items now here.now) certs.old (filter is_integrity label.now)) }
+{
+    for c in label {
+        if c.kind != Kind::Secrecy {
+            attach_chain(alloc, certs, store, now, here, c)?;
+        }
+    }
+    Ok(())
+}
+
+/// The same for a label's integrity categories, an ownership and a clearance.
+fn attached(
+    alloc: Global,
+    store: &CertList,
+    now: u64,
+    here: &PubKey,
+    label: &Label,
+    own: &Label,
+    clear: &Label,
+) -> Result<CertBytes, AllocError>
+    ensures { IfOk result (λ certs. certs ≡ attach_each (spelled_chain store.now.items now here.now)
+        (attach_each (spelled_chain store.now.items now here.now) (attach_each (spelled_chain store.now.items now here.now) [] (filter is_integrity label.now)) own.now) clear.now) }
+{
+    let mut certs = CertBytes::new(alloc);
+    attach_integrity(alloc, &mut certs, store, now, here, label.as_slice())?;
+    attach_members(alloc, &mut certs, store, now, here, own.as_slice())?;
+    attach_members(alloc, &mut certs, store, now, here, clear.as_slice())?;
+    Ok(certs)
+}
+
+/// The certificates that the exporter `here` attaches to a message with these labels at the moment `now`: for each integrity
+/// category of the label, then each granted ownership and each granted clearance, in label order, the delegations of its
+/// own shortest chain by what the host keeps, in chain order, each once, until there are 16. `AllocError` where memory runs out.
+pub fn attach(
+    alloc: Global,
+    store: &CertList,
+    now: u64,
+    here: &PubKey,
+    label: &Label,
+    own: &Label,
+    clear: &Label,
+) -> Result<CertBytes, AllocError>
+    ensures { (s : Scheme) → IfOk result (λ certs. certs ≡ attach (flow_scheme s) store.now.items now here.now label.now own.now clear.now) }
+{
+    attached(alloc, store, now, here, label, own, clear)
+}
