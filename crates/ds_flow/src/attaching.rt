@@ -1,11 +1,11 @@
 //! The certificates that go with a message.
 
-ghost use Rattle.std.specs.Prelude.{◌≡◌, ◌++◌, [], ◌∷◌, map, filter, IfOk, OnOk};
+ghost use Rattle.std.specs.Prelude.{◌≡◌, ◌++◌, [], ◌∷◌, map, filter, filter_map, slice_get, IfOk, OnOk};
 ghost use Rattle.ds_cert.specs.Spelling.{spelling_of_delegation};
 ghost use Rattle.ds_model.specs.ExporterRules.{attach, attach_all, with_attached};
 ghost use Rattle.ds_model.specs.Scheme.{Scheme};
 ghost use Rattle.ds_flow.specs.Asked.{attach_each, is_integrity, spelled_chain};
-ghost use Rattle.ds_flow.specs.Chains.{at_places, flow_scheme};
+ghost use Rattle.ds_flow.specs.Chains.{flow_scheme};
 
 use ds_chain::{CertList, search};
 use ds_label::{Category, Kind, Label, PubKey};
@@ -28,7 +28,7 @@ fn add(certs: &mut CertBytes, spelled: Bytes) -> Result<(), AllocError>
 
 /// Attaches the delegation at a place, where there is one.
 fn attach_place(certs: &mut CertBytes, store: &CertList, place: u32) -> Result<(), AllocError>
-    ensures { OnOk result (certs.new ≡ attach_all certs.old (map spelling_of_delegation (at_places store.now.items (place ∷ [])))) }
+    ensures { OnOk result (certs.new ≡ attach_all certs.old (map spelling_of_delegation (filter_map (slice_get store.now.items) (place ∷ [])))) }
 {
     let Some(cert) = store.get(place as usize) else {
         return Ok(());
@@ -38,7 +38,7 @@ fn attach_place(certs: &mut CertBytes, store: &CertList, place: u32) -> Result<(
 
 /// Attaches the delegations at these places.
 fn attach_places(certs: &mut CertBytes, store: &CertList, places: &[u32]) -> Result<(), AllocError>
-    ensures { OnOk result (certs.new ≡ attach_all certs.old (map spelling_of_delegation (at_places store.now.items places.now))) }
+    ensures { OnOk result (certs.new ≡ attach_all certs.old (map spelling_of_delegation (filter_map (slice_get store.now.items) places.now))) }
 {
     for place in places {
         attach_place(certs, store, *place)?;
