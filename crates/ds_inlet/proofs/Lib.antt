@@ -1,0 +1,4 @@
+pub mod Counts
+pub mod Messages
+pub mod Steady
+pub mod Follows

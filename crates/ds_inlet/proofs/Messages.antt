@@ -1,0 +1,18 @@
+-- Messages that were read before the others.
+use Rattle.std.proofs.Common.{◌≡◌, List, [], ◌∷◌, ◌++◌, refl, sym, ap, append_assoc}
+use Rattle.std.specs.Prelude.{Result, Ok, Err}
+use Rattle.ds_cert.specs.Fields.{◌>>=◌}
+use Rattle.ds_msg.specs.declared.message.Message.{Message}
+use Rattle.ds_frame.specs.Fields.{Stop}
+
+abbrev pub with_front : List Message → Result (List Message) Stop → Result (List Message) Stop
+with_front front (Ok messages) = Ok (front ++ messages)
+with_front front (Err stop) = Err stop
+
+abbrev all_read : List Message → Result (List Message) Stop
+all_read messages = Ok messages
+
+-- one more message before them
+pub one_more : (front : List Message) (m : Message) (later : Result (List Message) Stop) → with_front front (later >>= λ (ms : List Message). Ok (m ∷ ms)) ≡ with_front (front ++ m ∷ []) later
+one_more front m (Ok ms) = ap all_read (sym (append_assoc front (m ∷ []) ms))
+one_more front m (Err stop) = refl

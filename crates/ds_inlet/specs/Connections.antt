@@ -1,0 +1,153 @@
+-- A connection, and what its calls make of it.
+use Rattle.std.specs.Prelude.{◌≡◌, ℕ, ◌+◌, ◌-◌, Bool, true, false, List, [], ◌∷◌, ◌++◌, length, Option, Some, None, Result, Ok, Err}
+use Rattle.ds_label.specs.declared.category.PubKey.{PubKey}
+use Rattle.ds_label.specs.declared.rule.Rule.{Rule}
+use Rattle.ds_script.specs.declared.actor.Actor.{Actor}
+use Rattle.ds_cert.specs.declared.lane.LaneCert.{LaneCert}
+use Rattle.ds_msg.specs.declared.message.Message.{Message}
+use Rattle.ds_msg.specs.declared.local.LocalMessage.{LocalMessage}
+use Rattle.ds_frame.specs.declared.cause.Cause.{Cause}
+use Rattle.ds_frame.specs.declared.item.Failure.{Failure}
+use Rattle.ds_frame.specs.declared.item.ReadEnd.{ReadEnd}
+use Rattle.ds_frame.specs.declared.item.ReadEnd.TheVariants as ends
+use Rattle.ds_frame.specs.Fields.{Stop, Open, Broken}
+use Rattle.ds_frame.specs.Reader.{Reader, fed, new_reader}
+use Rattle.ds_model.specs.Scheme.{InletName, Item as Seen, Hello, Framed}
+use Rattle.ds_inlet.specs.Hosts.{inlet_at, seen_reading}
+use Rattle.ds_inlet.specs.declared.offer.Offer.{Offer}
+use Rattle.ds_inlet.specs.declared.offer.Offer.TheVariants as offers
+use Rattle.ds_inlet.specs.declared.offer.ConnEntry.{ConnEntry}
+use Rattle.ds_inlet.specs.declared.offer.ConnEntry.TheVariants as entries
+use Rattle.ds_inlet.specs.OfferedFrames.{OfferedFrame}
+
+-- The actor for which it stands, its host's key and inlets; all bytes that arrived, and how far they are read; the frame that
+-- is offered; the messages of the last fresh frame that aren't judged yet; the one that was judged and isn't put yet, with its
+-- slot; and its entries.
+pub record Connection : Type 0 where
+  pub who : Actor
+  pub here : PubKey
+  pub inlets : List InletName
+  pub arrived : List ℕ
+  pub reader : Reader
+  pub offered : Option OfferedFrame
+  pub hand : List Message
+  pub passed : Option (ℕ × LocalMessage)
+  pub entries : List ConnEntry
+
+-- a connection, for how many entries there is memory, and for how many bytes
+pub record RoomyConnection : Type 0 where
+  pub conn : Connection
+  pub spare : ℕ
+  pub space : ℕ
+
+-- before any byte
+abbrev pub new_connection : Actor → PubKey → List InletName → Connection
+new_connection who here inlets = record { who = who; here = here; inlets = inlets; arrived = []; reader = new_reader; offered = None; hand = []; passed = None; entries = [] }
+
+-- after more bytes
+abbrev pub arrived_more : List ℕ → Connection → Connection
+arrived_more piece k = record k { arrived = k.arrived ++ piece; reader = fed piece k.reader }
+
+-- READ
+
+-- an offer stands: after a hello none, after a frame the frame with this inlet and number
+abbrev pub IsOfferedAt : (inlet number : ℕ) → Option OfferedFrame → Type 0
+IsOfferedAt inlet number None = ⊥
+IsOfferedAt inlet number (Some o) = (o.inlet ≡ inlet) × (o.number ≡ number)
+
+abbrev pub IsOffered : Offer → Option OfferedFrame → Type 0
+IsOffered offers.Hello offered = offered ≡ None
+IsOffered (offers.Frame inlet number) offered = IsOfferedAt inlet number offered
+
+-- what a call of read answers, and the connection after it
+pub record Told : Type 0 where
+  pub answer : Result Offer ReadEnd
+  pub conn : Connection
+
+-- a place, or 0
+abbrev pub place_or_0 : Option ℕ → ℕ
+place_or_0 None = 0
+place_or_0 (Some place) = place
+
+-- The inlet of the lane whose certificate was read. There is one, since the hello was admitted.
+abbrev pub seat : List InletName → Option LaneCert → ℕ
+seat inlets None = 0
+seat inlets (Some lane) = place_or_0 (inlet_at inlets lane)
+
+-- read as far as these bytes are left
+abbrev pub read_past : Option LaneCert → List ℕ → Reader → Reader
+read_past lane rest r = record r { rest = rest; passed = r.passed + (length r.rest - length rest); lane = lane }
+
+abbrev pub frame_seen : Connection → (number : ℕ) → List Message → OfferedFrame
+frame_seen k number messages = record { inlet = seat k.inlets k.reader.lane; number = number; messages = messages }
+
+-- a hello is taken, and a frame offered
+abbrev pub told_seen : Connection → Seen → List ℕ → Told
+told_seen k (Hello lane) rest = record { answer = Ok offers.Hello; conn = record k { reader = read_past (Some lane) rest k.reader } }
+told_seen k (Framed number messages) rest = record { answer = Ok (offers.Frame (seat k.inlets k.reader.lane) number); conn = record k { reader = read_past k.reader.lane rest k.reader; offered = Some (frame_seen k number messages) } }
+
+-- a broken stream fails for ever
+abbrev pub told_reading : Connection → Result (Seen × List ℕ) Stop → Told
+told_reading k (Ok x) = told_seen k x.0 x.1
+told_reading k (Err Open) = record { answer = Err ends.NotYet; conn = k }
+told_reading k (Err (Broken cause offset)) = record { answer = Err (ends.BadFrame cause (k.reader.passed + offset)); conn = record k { reader = record k.reader { failure = Some (record { cause = cause; place = k.reader.passed + offset }) } } }
+
+abbrev pub told_unless : Option Failure → Connection → Told
+told_unless None k = told_reading k (seen_reading k.here k.inlets k.reader.lane k.reader.rest)
+told_unless (Some failure) k = record { answer = Err (ends.BadFrame failure.cause failure.place); conn = k }
+
+-- an offered frame stays offered
+abbrev pub told_offered : Option OfferedFrame → Connection → Told
+told_offered None k = told_unless k.reader.failure k
+told_offered (Some o) k = record { answer = Ok (offers.Frame o.inlet o.number); conn = k }
+
+abbrev pub told_read : Connection → Told
+told_read k = told_offered k.offered k
+
+-- What a call of read did: what the definition says, or nothing where memory ran out.
+abbrev pub Reads : (before : Connection) → Result Offer ReadEnd → (after : Connection) → Type 0
+Reads before (Err ends.NoMemory) after = after ≡ before
+Reads before (Err ends.NotYet) after = told_read before ≡ record { answer = Err ends.NotYet; conn = after }
+Reads before (Err (ends.BadFrame cause place)) after = told_read before ≡ record { answer = Err (ends.BadFrame cause place); conn = after }
+Reads before (Ok offer) after = told_read before ≡ record { answer = Ok offer; conn = after }
+
+-- failed at that place for ever, unless memory ran out
+abbrev pub FailsAt : (before : Connection) → Cause → (place : ℕ) → ReadEnd → (after : Connection) → Type 0
+FailsAt before cause place ends.NoMemory after = after ≡ before
+FailsAt before cause place ends.NotYet after = ⊥
+FailsAt before cause place (ends.BadFrame c p) after = (c ≡ cause) × (p ≡ place) × (after ≡ record before { reader = record before.reader { failure = Some (record { cause = cause; place = place }) } })
+
+-- failed for ever, unless memory ran out
+abbrev pub Fails : (before : Connection) → Cause → (offset : ℕ) → ReadEnd → (after : Connection) → Type 0
+Fails before cause offset end after = FailsAt before cause (before.reader.passed + offset) end after
+
+-- THE OTHER CALLS
+
+-- after an entry
+abbrev pub with_entry : ConnEntry → Connection → Connection
+with_entry entry k = record k { entries = k.entries ++ entry ∷ [] }
+
+-- an offered frame's messages go to the hand, where it is fresh, or are dropped with it
+abbrev pub settled_as : Bool → Option OfferedFrame → Connection → Connection
+settled_as fresh None k = k
+settled_as true (Some o) k = with_entry (entries.Frame o.number (length o.messages)) (record k { offered = None; hand = o.messages })
+settled_as false (Some o) k = with_entry (entries.Stale o.number) (record k { offered = None })
+
+abbrev pub settled : Bool → Connection → Connection
+settled fresh k = settled_as fresh k.offered k
+
+-- the first message of the hand passes
+abbrev pub passed_from : LocalMessage → List Message → Connection → Connection
+passed_from message [] k = k
+passed_from message (first ∷ rest) k = with_entry (entries.Pass first.slot) (record k { hand = rest; passed = Some (first.slot, message) })
+
+abbrev pub passed_on : LocalMessage → Connection → Connection
+passed_on message k = passed_from message k.hand k
+
+-- the first message of the hand is dropped
+abbrev pub refused_from : Rule → List Message → Connection → Connection
+refused_from rule [] k = k
+refused_from rule (first ∷ rest) k = with_entry (entries.Drop rule first.slot) (record k { hand = rest })
+
+abbrev pub refused_by : Rule → Connection → Connection
+refused_by rule k = refused_from rule k.hand k

@@ -1,0 +1,20 @@
+//! What holds of the definitions. The functions do nothing: their contracts are the laws.
+
+ghost use Rattle.std.specs.Prelude.{List};
+ghost use Rattle.ds_label.specs.declared.category.PubKey.{PubKey};
+ghost use Rattle.ds_frame.specs.Laws.{IsReadByPieces};
+ghost use Rattle.ds_model.specs.Scheme.{InletName};
+ghost use Rattle.ds_inlet.specs.Hosts.{host_reading};
+ghost use Rattle.ds_inlet.specs.Reads.{IsReadAsStream};
+
+/// In whatever pieces a stream comes to a host, and whenever its next item is asked for, the items handed out are those that
+/// the host reads of the whole stream, in their order, and the reader waits and fails as the whole stream does.
+pub fn pieces_make_no_difference()
+    ensures { (here : PubKey) (inlets : List InletName) → IsReadByPieces (host_reading here inlets) }
+{}
+
+/// Where no frame is offered, what a connection reads is the next item that its stream carries for its host, or its end, and it
+/// has read as far as the item goes.
+pub fn connections_read_the_stream()
+    ensures { IsReadAsStream }
+{}
