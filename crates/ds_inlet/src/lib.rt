@@ -2,6 +2,8 @@
 #![tactic(auto)]
 
 mod conn;
+#[cfg(test)]
+mod conn_tests;
 mod entry;
 mod hosts;
 mod laws;
