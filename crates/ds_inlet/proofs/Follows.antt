@@ -1,5 +1,5 @@
 -- A connection reads what its stream carries for its host.
-use Rattle.std.proofs.Common.{◌≡◌, ℕ, Bool, true, false, cond, List, Option, Some, None, refl, sym, ap, subst, ◌∙◌}
+use Rattle.std.proofs.Common.{◌≡◌, ℕ, Bool, true, false, cond, List, Option, Some, None, refl, sym, ap, subst}
 use Rattle.std.specs.Prelude.{Result, Ok, Err}
 use Rattle.ds_label.specs.declared.category.PubKey.{PubKey}
 use Rattle.ds_cert.specs.declared.lane.LaneCert.{LaneCert}
@@ -12,11 +12,11 @@ use Rattle.ds_frame.specs.declared.item.Item.{Item}
 use Rattle.ds_frame.specs.declared.item.Item.TheVariants as items
 use Rattle.ds_frame.specs.Fields.{Stop, Open, Broken}
 use Rattle.ds_frame.specs.Checks.{read_item}
-use Rattle.ds_frame.specs.Reader.{Reader, lane_after, answer_of, next_by, next_unless}
+use Rattle.ds_frame.specs.Reader.{lane_after, answer_of, next_by, next_unless}
 use Rattle.ds_model.specs.Keys.{same_key}
 use Rattle.ds_model.specs.Scheme.{InletName, Item as Seen, Hello, Framed}
 use Rattle.ds_inlet.specs.Hosts.{inlet_at, declared_lane, messages_from, host_item, host_reading, seen_reading}
-use Rattle.ds_inlet.specs.Connections.{Connection, read_past, told_reading, told_unless, told_read, told_offered}
+use Rattle.ds_inlet.specs.Connections.{Connection, read_past, told_reading, told_unless, told_offered}
 use Rattle.ds_inlet.specs.Reads.{Follows, IsReadAsStream}
 use Rattle.ds_inlet.specs.OfferedFrames.{OfferedFrame}
 

@@ -2,3 +2,5 @@ pub mod Counts
 pub mod Messages
 pub mod Steady
 pub mod Follows
+pub mod ForHost
+pub mod PlainCalls

@@ -1,5 +1,5 @@
 -- A connection, and what its calls make of it.
-use Rattle.std.specs.Prelude.{◌≡◌, ℕ, ◌+◌, ◌-◌, Bool, true, false, List, [], ◌∷◌, ◌++◌, length, Option, Some, None, Result, Ok, Err}
+use Rattle.std.specs.Prelude.{◌≡◌, ℕ, ◌+◌, ◌-◌, Bool, true, false, List, [], ◌∷◌, ◌++◌, length, Option, Some, None, is_some, Result, Ok, Err}
 use Rattle.ds_label.specs.declared.category.PubKey.{PubKey}
 use Rattle.ds_label.specs.declared.rule.Rule.{Rule}
 use Rattle.ds_script.specs.declared.actor.Actor.{Actor}
@@ -69,10 +69,39 @@ abbrev pub place_or_0 : Option ℕ → ℕ
 place_or_0 None = 0
 place_or_0 (Some place) = place
 
--- The inlet of the lane whose certificate was read. There is one, since the hello was admitted.
+-- the inlet of the lane whose certificate was read, if there is one
+abbrev pub seat_of : List InletName → Option LaneCert → Option ℕ
+seat_of inlets None = None
+seat_of inlets (Some lane) = inlet_at inlets lane
+
+-- The inlet of the lane whose certificate was read. Where a frame is read there is one, since its hello was admitted.
 abbrev pub seat : List InletName → Option LaneCert → ℕ
-seat inlets None = 0
-seat inlets (Some lane) = place_or_0 (inlet_at inlets lane)
+seat inlets lane = place_or_0 (seat_of inlets lane)
+
+-- the lane whose certificate was read has an inlet
+abbrev pub HasInlet : List InletName → Option LaneCert → Type 0
+HasInlet inlets None = Unit {0}
+HasInlet inlets (Some lane) = is_some (inlet_at inlets lane) ≡ true
+
+-- an offered frame is for the inlet at that place
+abbrev pub IsSeated : Option ℕ → Option OfferedFrame → Type 0
+IsSeated place None = Unit {0}
+IsSeated place (Some o) = place ≡ Some o.inlet
+
+-- A hello that was read has an inlet, and a frame that is offered is for that inlet.
+pub record IsAdmitted (k : Connection) : Type 0 where
+  pub lane : HasInlet k.inlets k.reader.lane
+  pub offered : IsSeated (seat_of k.inlets k.reader.lane) k.offered
+
+-- what a host sees is for it: a hello whose lane has an inlet, and a frame only after a hello
+abbrev pub IsForHost : List InletName → Option LaneCert → Seen → Type 0
+IsForHost inlets before (Hello lane) = is_some (inlet_at inlets lane) ≡ true
+IsForHost inlets before (Framed number messages) = is_some before ≡ true
+
+-- after a hello its lane has an inlet, and a frame is for the inlet at that place
+abbrev pub IsForLane : Offer → Option ℕ → Type 0
+IsForLane offers.Hello place = is_some place ≡ true
+IsForLane (offers.Frame inlet number) place = place ≡ Some inlet
 
 -- read as far as these bytes are left
 abbrev pub read_past : Option LaneCert → List ℕ → Reader → Reader

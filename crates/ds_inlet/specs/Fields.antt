@@ -1,7 +1,7 @@
 -- What the fields of a connection are, and what they keep.
 use Rattle.std.specs.Prelude.{◌≤◌, ◌-◌, drop, length, vec_len, vec_capacity}
 use Rattle.ds_inlet.specs.declared.conn.Conn.TheInside.{Inside}
-use Rattle.ds_inlet.specs.Connections.{Connection, RoomyConnection}
+use Rattle.ds_inlet.specs.Connections.{Connection, RoomyConnection, HasInlet, IsSeated, seat_of}
 
 abbrev pub connection_of : Inside → Connection
 connection_of s = record {
@@ -19,5 +19,7 @@ connection_of s = record {
 abbrev pub roomy_of : Inside → RoomyConnection
 roomy_of s = record { conn = connection_of s; spare = vec_capacity s.entries - vec_len s.entries; space = vec_capacity s.bytes - vec_len s.bytes }
 
-abbrev pub IsWithin : Inside → Type 0
-IsWithin s = s.at ≤ length s.bytes.items
+pub record IsKept (s : Inside) : Type 0 where
+  pub read : s.at ≤ length s.bytes.items
+  pub lane : HasInlet s.inlets s.lane
+  pub offered : IsSeated (seat_of s.inlets s.lane) s.offered

@@ -6,3 +6,4 @@ pub mod OfferedFrames
 pub mod Connections
 pub mod Fields
 pub mod Reads
+pub mod PlainConnections

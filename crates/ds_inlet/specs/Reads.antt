@@ -4,9 +4,7 @@ use Rattle.ds_label.specs.declared.category.PubKey.{PubKey}
 use Rattle.ds_cert.specs.declared.lane.LaneCert.{LaneCert}
 use Rattle.ds_frame.specs.declared.item.Item.{Item}
 use Rattle.ds_frame.specs.declared.item.ReadEnd.{ReadEnd}
-use Rattle.ds_frame.specs.declared.item.ReadEnd.TheVariants as ends
 use Rattle.ds_frame.specs.Reader.{Answer, next_by}
-use Rattle.ds_frame.specs.Fields.{Stop}
 use Rattle.ds_model.specs.Scheme.{InletName, Item as Seen, Hello, Framed}
 use Rattle.ds_inlet.specs.Hosts.{host_item, host_reading, seen_or_none}
 use Rattle.ds_inlet.specs.OfferedFrames.{OfferedFrame}

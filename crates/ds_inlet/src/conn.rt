@@ -3,7 +3,8 @@
 
 ghost use Rattle.std.specs.Prelude.{◌≡◌, ◌<◌, ◌≤◌, ◌+◌, drop, length, Bool, true, false, is_some, [], ◌∷◌, slice_get, IfOk, MatchOption, None, Ok, OnOk, OnErr, Some};
 ghost use Rattle.ds_frame.specs.Reader.{fed};
-ghost use Rattle.ds_inlet.specs.Connections.{Fails, IsOffered, Reads, arrived_more, frame_seen, new_connection, passed_on, refused_by, seat, settled, told_seen};
+ghost use Rattle.ds_inlet.specs.Connections.{Fails, IsAdmitted, IsForHost, IsForLane, IsOffered, Reads, arrived_more, frame_seen, new_connection, passed_on, refused_by, seat, seat_of, settled, told_seen};
+ghost use Rattle.ds_inlet.specs.Hosts.{inlet_at};
 ghost use Rattle.ds_inlet.specs.Seen.{seen_of};
 
 use crate::hosts::{Seen, seen_reading};
@@ -42,11 +43,11 @@ impl Model for Conn {
 
     ghost Value = { RoomyConnection };
 
-    ghost use Rattle.ds_inlet.specs.Fields.{roomy_of, IsWithin};
+    ghost use Rattle.ds_inlet.specs.Fields.{roomy_of, IsKept};
 
     ghost view = { roomy_of };
 
-    ghost invariant = { IsWithin };
+    ghost invariant = { IsKept };
 }
 
 impl Conn {
@@ -132,6 +133,13 @@ impl Conn {
         self.offered.is_some()
     }
 
+    /// What every connection keeps: a hello that was read has an inlet, and an offered frame is for that inlet.
+    pub fn is_admitted(&self)
+        ensures { IsAdmitted self.now.conn }
+    {
+        let _at = self.at;
+    }
+
     /// The first message of the hand.
     pub fn front(&self) -> Option<&Message>
         ensures { MatchOption result (self.now.conn.hand ≡ []) (λ m. slice_get self.now.conn.hand 0 ≡ Some m.now) }
@@ -144,6 +152,7 @@ impl Conn {
     pub fn reserve(&mut self) -> Result<(), AllocError>
         ensures same { self.new.conn ≡ self.old.conn }
         ensures room { OnOk result (0 < self.new.spare) }
+        ensures space { self.new.space ≡ self.old.space }
     {
         self.entries.reserve(1)
     }
@@ -152,6 +161,7 @@ impl Conn {
     pub fn reserve_bytes(&mut self, count: usize) -> Result<(), AllocError>
         ensures same { self.new.conn ≡ self.old.conn }
         ensures room { OnOk result (count ≤ self.new.space) }
+        ensures spare { self.new.spare ≡ self.old.spare }
     {
         self.bytes.reserve(count)
     }
@@ -159,7 +169,8 @@ impl Conn {
     /// Takes the next bytes of the stream, for which there is room. It takes no memory.
     pub fn arrive_reserved(&mut self, piece: &[u8])
         requires { length piece.now ≤ self.old.space }
-        ensures { self.new.conn ≡ arrived_more piece.now self.old.conn }
+        ensures state { self.new.conn ≡ arrived_more piece.now self.old.conn }
+        ensures spare { self.new.spare ≡ self.old.spare }
     {
         self.bytes.extend_from_slice(piece).unwrap();
     }
@@ -168,6 +179,7 @@ impl Conn {
     pub fn arrive(&mut self, piece: &[u8]) -> Result<(), AllocError>
         ensures ok { OnOk result (self.new.conn ≡ arrived_more piece.now self.old.conn) }
         ensures err { OnErr result (self.new.conn ≡ self.old.conn) }
+        ensures spare { self.new.spare ≡ self.old.spare }
     {
         self.reserve_bytes(piece.len())?;
         self.arrive_reserved(piece);
@@ -177,12 +189,14 @@ impl Conn {
     /// Reads on. A hello is taken by this call; a frame is offered, and stays so until it is settled. `NotYet` comes exactly
     /// where the next item isn't whole and each field of it that is whole is in range; `BadFrame` exactly where it breaks the
     /// stream for this host, with the first cause and its place, and from then on for ever. After `NoMemory`, which says that
-    /// memory ran out, nothing changed.
+    /// memory ran out, nothing changed. A frame is offered for the inlet of the hello's lane, and there is one.
     pub fn read(&mut self) -> Result<Offer, ReadEnd>
         requires hand { self.old.conn.hand ≡ [] }
         requires free { self.old.conn.passed ≡ None }
         ensures exact { Reads self.old.conn result self.new.conn }
         ensures offered { IfOk result (λ offer. IsOffered offer self.new.conn.offered) }
+        ensures inlet { IfOk result (λ offer. IsForLane offer (seat_of self.new.conn.inlets self.new.conn.reader.lane)) }
+        ensures room { (self.new.spare ≡ self.old.spare) × (self.new.space ≡ self.old.space) }
     {
         if let Some(offered) = &self.offered {
             return Ok(Offer::Frame {
@@ -212,8 +226,11 @@ impl Conn {
     fn take_seen(&mut self, seen: Seen, size: usize) -> Offer
         requires size { size ≤ length self.old.conn.reader.rest }
         requires free { self.old.conn.offered ≡ None }
+        requires host { IsForHost self.old.conn.inlets self.old.conn.reader.lane (seen_of seen) }
         ensures told { told_seen self.old.conn (seen_of seen) (drop size self.old.conn.reader.rest) ≡ record { answer = Ok result; conn = self.new.conn } }
         ensures offered { IsOffered result self.new.conn.offered }
+        ensures inlet { IsForLane result (seat_of self.new.conn.inlets self.new.conn.reader.lane) }
+        ensures room { (self.new.spare ≡ self.old.spare) × (self.new.space ≡ self.old.space) }
     {
         match seen {
             Seen::Hello(lane) => self.take_hello(lane, size),
@@ -223,9 +240,12 @@ impl Conn {
 
     /// Takes a hello of that many bytes.
     fn take_hello(&mut self, lane: LaneCert, size: usize) -> Offer
-        requires { size ≤ length self.old.conn.reader.rest }
+        requires size { size ≤ length self.old.conn.reader.rest }
+        requires free { self.old.conn.offered ≡ None }
+        requires inlet { is_some (inlet_at self.old.conn.inlets lane) ≡ true }
         ensures state { self.new.conn ≡ record self.old.conn { reader = record self.old.conn.reader { rest = drop size self.old.conn.reader.rest; passed = self.old.conn.reader.passed + size; lane = Some lane } } }
         ensures offer { result ≡ Offer.Hello }
+        ensures room { (self.new.spare ≡ self.old.spare) × (self.new.space ≡ self.old.space) }
     {
         self.lane = Some(lane);
         self.at += size;
@@ -234,19 +254,27 @@ impl Conn {
 
     /// The place of the inlet of the lane whose certificate was read.
     fn seat(&self) -> u32
-        ensures { result ≡ seat self.now.conn.inlets self.now.conn.reader.lane }
+        requires { is_some self.now.conn.reader.lane ≡ true }
+        ensures inlet { seat_of self.now.conn.inlets self.now.conn.reader.lane ≡ Some result }
+        ensures place { result ≡ seat self.now.conn.inlets self.now.conn.reader.lane }
     {
-        match &self.lane {
-            None => 0,
-            Some(lane) => self.inlets.find(lane).unwrap_or(0),
-        }
+        let Some(lane) = &self.lane else {
+            unreachable!();
+        };
+        let Some(place) = self.inlets.find(lane) else {
+            unreachable!();
+        };
+        place
     }
 
     /// Offers a frame of that many bytes.
     fn offer_frame(&mut self, number: u32, messages: VecDeque<Message>, size: usize) -> Offer
-        requires { size ≤ length self.old.conn.reader.rest }
+        requires size { size ≤ length self.old.conn.reader.rest }
+        requires hello { is_some self.old.conn.reader.lane ≡ true }
         ensures state { self.new.conn ≡ record self.old.conn { reader = record self.old.conn.reader { rest = drop size self.old.conn.reader.rest; passed = self.old.conn.reader.passed + size }; offered = Some (frame_seen self.old.conn number messages.items) } }
         ensures offer { result ≡ Offer.Frame (seat self.old.conn.inlets self.old.conn.reader.lane) number }
+        ensures inlet { seat_of self.old.conn.inlets self.old.conn.reader.lane ≡ Some (seat self.old.conn.inlets self.old.conn.reader.lane) }
+        ensures room { (self.new.spare ≡ self.old.spare) × (self.new.space ≡ self.old.space) }
     {
         let inlet = self.seat();
         self.offered = Some(Offered {
@@ -260,7 +288,8 @@ impl Conn {
 
     /// Fails at that many bytes behind the front, for ever.
     fn fail(&mut self, cause: Cause, offset: usize) -> ReadEnd
-        ensures { Fails self.old.conn cause offset result self.new.conn }
+        ensures end { Fails self.old.conn cause offset result self.new.conn }
+        ensures room { (self.new.spare ≡ self.old.spare) × (self.new.space ≡ self.old.space) }
     {
         let Some(place) = self.at.checked_add(offset) else {
             return ReadEnd::NoMemory;
@@ -278,7 +307,7 @@ impl Conn {
         ensures { self.new.conn ≡ settled fresh self.old.conn }
     {
         let Some(offered) = self.offered.take() else {
-            return;
+            unreachable!();
         };
         let number = offered.number;
         if !fresh {
@@ -298,7 +327,7 @@ impl Conn {
         ensures { self.new.conn ≡ passed_on message self.old.conn }
     {
         let Some(first) = self.hand.pop_front() else {
-            return;
+            unreachable!();
         };
         let slot = first.slot;
         self.passed = Some((slot, message));
@@ -312,7 +341,7 @@ impl Conn {
         ensures { self.new.conn ≡ refused_by rule self.old.conn }
     {
         let Some(first) = self.hand.pop_front() else {
-            return;
+            unreachable!();
         };
         let slot = first.slot;
         self.entries.push_reserved(ConnEntry::Drop { rule, slot });

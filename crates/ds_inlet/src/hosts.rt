@@ -5,6 +5,7 @@ ghost use Rattle.ds_msg.specs.Reading.{read_message};
 ghost use Rattle.ds_frame.specs.Fields.{Finds, IsAmong};
 ghost use Rattle.ds_model.specs.Keys.{same_key};
 ghost use Rattle.ds_inlet.specs.Hosts.{admitted, message_or, messages_from, host_item, seen_reading};
+ghost use Rattle.ds_inlet.specs.Connections.{IsForHost};
 ghost use Rattle.ds_inlet.specs.Seen.{seen_of};
 
 use crate::names::InletNames;
@@ -117,6 +118,7 @@ pub(crate) fn seen_reading(
 ) -> Result<(Seen, usize), Halt>
     ensures gives { Finds (λ x. (seen_of x.0, drop x.1 bytes.now)) result (seen_reading here.now inlets.now lane.now bytes.now) }
     ensures size { IfOk result (λ x. x.1 ≤ length bytes.now) }
+    ensures host { IfOk result (λ x. IsForHost inlets.now lane.now (seen_of x.0)) }
 {
     let (item, size) = item_of(alloc, lane, bytes)?;
     let seen = host_item(alloc, here, inlets, item)?;

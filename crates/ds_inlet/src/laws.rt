@@ -5,6 +5,7 @@ ghost use Rattle.ds_label.specs.declared.category.PubKey.{PubKey};
 ghost use Rattle.ds_frame.specs.Laws.{IsReadByPieces};
 ghost use Rattle.ds_model.specs.Scheme.{InletName};
 ghost use Rattle.ds_inlet.specs.Hosts.{host_reading};
+ghost use Rattle.ds_inlet.specs.PlainConnections.{IsPlainArrival, IsPlainDrop, IsPlainFresh, IsPlainHand, IsPlainPass, IsPlainReturn, IsPlainStale};
 ghost use Rattle.ds_inlet.specs.Reads.{IsReadAsStream};
 
 /// In whatever pieces a stream comes to a host, and whenever its next item is asked for, the items handed out are those that
@@ -17,4 +18,16 @@ pub fn pieces_make_no_difference()
 /// has read as far as the item goes.
 pub fn connections_read_the_stream()
     ensures { IsReadAsStream }
+{}
+
+/// Seen as the plain world's connection, arrivals and the calls after a reading do what the plain world's pieces do: a settled
+/// frame is a fresh or a stale one, and the first message of the hand passes or is dropped.
+pub fn connections_act_as_the_plain_world()
+    ensures arrives { IsPlainArrival }
+    ensures fresh { IsPlainFresh }
+    ensures stale { IsPlainStale }
+    ensures passes { IsPlainPass }
+    ensures drops { IsPlainDrop }
+    ensures put { IsPlainHand }
+    ensures given_back { IsPlainReturn }
 {}

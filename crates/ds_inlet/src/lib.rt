@@ -15,7 +15,9 @@ mod tests;
 
 pub use conn::Conn;
 pub use entry::{InletAct, InletEntry, InletSegment};
-pub use laws::{connections_read_the_stream, pieces_make_no_difference};
+pub use laws::{
+    connections_act_as_the_plain_world, connections_read_the_stream, pieces_make_no_difference,
+};
 pub use names::{InletName, InletNames};
 pub use offer::{ConnEntry, Offer};
 pub use state::{Inlet, Stale};
