@@ -1,10 +1,13 @@
 -- A connection, and what its calls make of it.
 use Rattle.std.specs.Prelude.{◌≡◌, ℕ, ◌+◌, ◌-◌, Bool, true, false, List, [], ◌∷◌, ◌++◌, length, Option, Some, None, is_some, Result, Ok, Err}
+use Rattle.std.specs.List.{All}
 use Rattle.ds_label.specs.declared.category.PubKey.{PubKey}
 use Rattle.ds_label.specs.declared.rule.Rule.{Rule}
 use Rattle.ds_script.specs.declared.actor.Actor.{Actor}
+use Rattle.ds_script.specs.Fits.{IsShort}
 use Rattle.ds_cert.specs.declared.lane.LaneCert.{LaneCert}
 use Rattle.ds_msg.specs.declared.message.Message.{Message}
+use Rattle.ds_msg.specs.Ranges.{MessageRange}
 use Rattle.ds_msg.specs.declared.local.LocalMessage.{LocalMessage}
 use Rattle.ds_frame.specs.declared.cause.Cause.{Cause}
 use Rattle.ds_frame.specs.declared.item.Failure.{Failure}
@@ -88,15 +91,36 @@ abbrev pub IsSeated : Option ℕ → Option OfferedFrame → Type 0
 IsSeated place None = Unit {0}
 IsSeated place (Some o) = place ≡ Some o.inlet
 
--- A hello that was read has an inlet, and a frame that is offered is for that inlet.
+-- each message of an offered frame is in range
+abbrev pub AreOfferedInRange : Option OfferedFrame → Type 0
+AreOfferedInRange None = Unit {0}
+AreOfferedInRange (Some o) = All MessageRange o.messages
+
+-- the payload of a message over a host's numbers is in range
+abbrev pub IsShortMessage : LocalMessage → Type 0
+IsShortMessage m = IsShort m.payload
+
+abbrev pub IsShortPassed : Option (ℕ × LocalMessage) → Type 0
+IsShortPassed None = Unit {0}
+IsShortPassed (Some p) = IsShortMessage p.1
+
+-- A hello that was read has an inlet, and a frame that is offered is for that inlet; the messages are in range.
 pub record IsAdmitted (k : Connection) : Type 0 where
   pub lane : HasInlet k.inlets k.reader.lane
   pub offered : IsSeated (seat_of k.inlets k.reader.lane) k.offered
+  pub offered_range : AreOfferedInRange k.offered
+  pub hand : All MessageRange k.hand
+  pub passed : IsShortPassed k.passed
 
 -- what a host sees is for it: a hello whose lane has an inlet, and a frame only after a hello
 abbrev pub IsForHost : List InletName → Option LaneCert → Seen → Type 0
 IsForHost inlets before (Hello lane) = is_some (inlet_at inlets lane) ≡ true
 IsForHost inlets before (Framed number messages) = is_some before ≡ true
+
+-- the messages of a frame are in range
+abbrev pub AreSeenInRange : Seen → Type 0
+AreSeenInRange (Hello lane) = Unit {0}
+AreSeenInRange (Framed number messages) = All MessageRange messages
 
 -- after a hello its lane has an inlet, and a frame is for the inlet at that place
 abbrev pub IsForLane : Offer → Option ℕ → Type 0

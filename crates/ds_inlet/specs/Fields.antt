@@ -1,7 +1,9 @@
 -- What the fields of a connection are, and what they keep.
 use Rattle.std.specs.Prelude.{◌≤◌, ◌-◌, drop, length, vec_len, vec_capacity}
+use Rattle.std.specs.List.{All}
+use Rattle.ds_msg.specs.Ranges.{MessageRange}
 use Rattle.ds_inlet.specs.declared.conn.Conn.TheInside.{Inside}
-use Rattle.ds_inlet.specs.Connections.{Connection, RoomyConnection, HasInlet, IsSeated, seat_of}
+use Rattle.ds_inlet.specs.Connections.{Connection, RoomyConnection, HasInlet, IsSeated, AreOfferedInRange, IsShortPassed, seat_of}
 
 abbrev pub connection_of : Inside → Connection
 connection_of s = record {
@@ -23,3 +25,6 @@ pub record IsKept (s : Inside) : Type 0 where
   pub read : s.at ≤ length s.bytes.items
   pub lane : HasInlet s.inlets s.lane
   pub offered : IsSeated (seat_of s.inlets s.lane) s.offered
+  pub offered_range : AreOfferedInRange s.offered
+  pub hand : All MessageRange s.hand.items
+  pub passed : IsShortPassed s.passed

@@ -1,9 +1,11 @@
 //! A connection: the bytes that arrived, what was read of them, and what became of its messages.
 #![tactic(auto)]
 
-ghost use Rattle.std.specs.Prelude.{◌≡◌, ◌<◌, ◌≤◌, ◌+◌, drop, length, Bool, true, false, is_some, [], ◌∷◌, slice_get, IfOk, MatchOption, None, Ok, OnOk, OnErr, Some};
+ghost use Rattle.std.specs.Prelude.{◌≡◌, ◌<◌, ◌≤◌, ◌+◌, drop, length, Bool, true, false, is_some, [], ◌∷◌, slice_get, IfOk, IfSome, MatchOption, None, Ok, OnOk, OnErr, Some};
+ghost use Rattle.std.specs.List.{All};
+ghost use Rattle.ds_msg.specs.Ranges.{MessageRange};
 ghost use Rattle.ds_frame.specs.Reader.{fed};
-ghost use Rattle.ds_inlet.specs.Connections.{Fails, IsAdmitted, IsForHost, IsForLane, IsOffered, Reads, arrived_more, frame_seen, new_connection, passed_on, refused_by, seat, seat_of, settled, told_seen};
+ghost use Rattle.ds_inlet.specs.Connections.{AreSeenInRange, Fails, IsAdmitted, IsForHost, IsForLane, IsOffered, IsShortMessage, IsShortPassed, Reads, arrived_more, frame_seen, new_connection, passed_on, refused_by, seat, seat_of, settled, told_seen};
 ghost use Rattle.ds_inlet.specs.Hosts.{inlet_at};
 ghost use Rattle.ds_inlet.specs.Seen.{seen_of};
 
@@ -133,7 +135,8 @@ impl Conn {
         self.offered.is_some()
     }
 
-    /// What every connection keeps: a hello that was read has an inlet, and an offered frame is for that inlet.
+    /// What every connection keeps: a hello that was read has an inlet, an offered frame is for that inlet, and messages are in
+    /// range.
     pub fn is_admitted(&self)
         ensures { IsAdmitted self.now.conn }
     {
@@ -142,7 +145,8 @@ impl Conn {
 
     /// The first message of the hand.
     pub fn front(&self) -> Option<&Message>
-        ensures { MatchOption result (self.now.conn.hand ≡ []) (λ m. slice_get self.now.conn.hand 0 ≡ Some m.now) }
+        ensures first { MatchOption result (self.now.conn.hand ≡ []) (λ m. slice_get self.now.conn.hand 0 ≡ Some m.now) }
+        ensures range { IfSome result (λ m. MessageRange m.now) }
     {
         self.hand.front()
     }
@@ -227,6 +231,7 @@ impl Conn {
         requires size { size ≤ length self.old.conn.reader.rest }
         requires free { self.old.conn.offered ≡ None }
         requires host { IsForHost self.old.conn.inlets self.old.conn.reader.lane (seen_of seen) }
+        requires range { AreSeenInRange (seen_of seen) }
         ensures told { told_seen self.old.conn (seen_of seen) (drop size self.old.conn.reader.rest) ≡ record { answer = Ok result; conn = self.new.conn } }
         ensures offered { IsOffered result self.new.conn.offered }
         ensures inlet { IsForLane result (seat_of self.new.conn.inlets self.new.conn.reader.lane) }
@@ -271,6 +276,7 @@ impl Conn {
     fn offer_frame(&mut self, number: u32, messages: VecDeque<Message>, size: usize) -> Offer
         requires size { size ≤ length self.old.conn.reader.rest }
         requires hello { is_some self.old.conn.reader.lane ≡ true }
+        requires range { All MessageRange messages.items }
         ensures state { self.new.conn ≡ record self.old.conn { reader = record self.old.conn.reader { rest = drop size self.old.conn.reader.rest; passed = self.old.conn.reader.passed + size }; offered = Some (frame_seen self.old.conn number messages.items) } }
         ensures offer { result ≡ Offer.Frame (seat self.old.conn.inlets self.old.conn.reader.lane) number }
         ensures inlet { seat_of self.old.conn.inlets self.old.conn.reader.lane ≡ Some (seat self.old.conn.inlets self.old.conn.reader.lane) }
@@ -320,8 +326,9 @@ impl Conn {
             .push_reserved(ConnEntry::Frame { number, count });
     }
 
-    /// Takes the first message of the hand, which passed as this one. It takes no memory.
+    /// Takes the first message of the hand, which passed as this one, of at most 16,384 bytes. It takes no memory.
     pub fn pass(&mut self, message: LocalMessage)
+        requires short { IsShortMessage message }
         requires room { 0 < self.old.spare }
         requires front { 0 < length self.old.conn.hand }
         ensures { self.new.conn ≡ passed_on message self.old.conn }
@@ -350,14 +357,16 @@ impl Conn {
     /// Hands out the message that passed and isn't put yet, with its slot. It takes no memory.
     pub fn passed(&mut self) -> Option<(u32, LocalMessage)>
         ensures message { result ≡ self.old.conn.passed }
+        ensures short { IsShortPassed result }
         ensures state { self.new ≡ record self.old { conn = record self.old.conn { passed = None } } }
     {
         self.passed.take()
     }
 
-    /// Makes a message the passed one again. It takes no memory.
+    /// Makes a message, of at most 16,384 bytes, the passed one again. It takes no memory.
     pub fn give_back(&mut self, slot: u32, message: LocalMessage)
-        requires { self.old.conn.passed ≡ None }
+        requires free { self.old.conn.passed ≡ None }
+        requires short { IsShortMessage message }
         ensures { self.new ≡ record self.old { conn = record self.old.conn { passed = Some (slot, message) } } }
     {
         self.passed = Some((slot, message));

@@ -1,11 +1,13 @@
 //! What a host reads of a stream.
 
 ghost use Rattle.std.specs.Prelude.{◌≡◌, ◌≤◌, ◌+◌, ◌++◌, [], ◌∷◌, drop, length, IfOk, IfSome, OnOk};
+ghost use Rattle.std.specs.List.{All};
+ghost use Rattle.ds_msg.specs.Ranges.{MessageRange};
 ghost use Rattle.ds_msg.specs.Reading.{read_message};
 ghost use Rattle.ds_frame.specs.Fields.{Finds, IsAmong};
 ghost use Rattle.ds_model.specs.Keys.{same_key};
 ghost use Rattle.ds_inlet.specs.Hosts.{admitted, message_or, messages_from, host_item, seen_reading};
-ghost use Rattle.ds_inlet.specs.Connections.{IsForHost};
+ghost use Rattle.ds_inlet.specs.Connections.{AreSeenInRange, IsForHost};
 ghost use Rattle.ds_inlet.specs.Seen.{seen_of};
 
 use crate::names::InletNames;
@@ -48,7 +50,8 @@ fn admitted(here: &PubKey, inlets: &InletNames, lane: LaneCert) -> Result<LaneCe
 
 /// The message that these bytes spell, which stand at that place.
 fn message_at(alloc: Global, place: usize, bytes: &[u8]) -> Result<Message, Halt>
-    ensures { Finds (λ x. x) result (message_or place (read_message bytes.now)) }
+    ensures gives { Finds (λ x. x) result (message_or place (read_message bytes.now)) }
+    ensures range { IfOk result MessageRange }
 {
     match Message::decode(alloc, bytes) {
         Ok(message) => Ok(message),
@@ -75,7 +78,8 @@ fn append(messages: &mut VecDeque<Message>, message: Message) -> Result<(), Allo
 /// The messages that these bytes spell. The first one's count stands at that place.
 #[tactic(auto, using(crate::proofs::Messages::one_more))]
 fn messages_of(alloc: Global, start: usize, bodies: &[Bytes]) -> Result<VecDeque<Message>, Halt>
-    ensures { Finds (λ x. x.items) result (messages_from start bodies.now) }
+    ensures gives { Finds (λ x. x.items) result (messages_from start bodies.now) }
+    ensures range { IfOk result (λ x. All MessageRange x.items) }
 {
     let mut messages = VecDeque::with_capacity(alloc, bodies.len())?;
     let mut place = start;
@@ -93,7 +97,8 @@ fn messages_of(alloc: Global, start: usize, bodies: &[Bytes]) -> Result<VecDeque
 /// What the host sees of an item.
 #[tactic(auto, unfolding(crate::specs::Hosts::host_item))]
 fn host_item(alloc: Global, here: &PubKey, inlets: &InletNames, item: Item) -> Result<Seen, Halt>
-    ensures { Finds seen_of result (host_item here.now inlets.now item) }
+    ensures gives { Finds seen_of result (host_item here.now inlets.now item) }
+    ensures range { IfOk result (λ seen. AreSeenInRange (seen_of seen)) }
 {
     match item {
         Item::Hello(lane) => {
@@ -118,6 +123,7 @@ pub(crate) fn seen_reading(
 ) -> Result<(Seen, usize), Halt>
     ensures gives { Finds (λ x. (seen_of x.0, drop x.1 bytes.now)) result (seen_reading here.now inlets.now lane.now bytes.now) }
     ensures size { IfOk result (λ x. x.1 ≤ length bytes.now) }
+    ensures range { IfOk result (λ x. AreSeenInRange (seen_of x.0)) }
     ensures host { IfOk result (λ x. IsForHost inlets.now lane.now (seen_of x.0)) }
 {
     let (item, size) = item_of(alloc, lane, bytes)?;

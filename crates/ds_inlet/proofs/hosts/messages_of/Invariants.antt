@@ -1,7 +1,14 @@
-use Rattle.std.proofs.Common.{◌≡◌, drop}
+use Rattle.std.proofs.Common.{◌≡◌, ℕ, List, drop}
+use Rattle.std.specs.List.{All}
+use Rattle.ds_msg.specs.declared.message.Message.{Message}
+use Rattle.ds_msg.specs.Ranges.{MessageRange}
 use Rattle.ds_inlet.specs.Hosts.{messages_from}
 use Rattle.ds_inlet.proofs.Messages.{with_front}
 use Rattle.ds_inlet.proofs.hosts.messages_of.Given as goal
 
+pub record IsReadSoFar (messages : List Message) (place index start : ℕ) (bodies : List (List ℕ)) : Type 0 where
+  pub reads : with_front messages (messages_from place (drop index bodies)) ≡ messages_from start bodies
+  pub range : All MessageRange messages
+
 abbrev pub invariant-loop-bytes : goal.invariant-loop-bytes
-invariant-loop-bytes l = with_front l.messages.items (messages_from l.place (drop l.bytes-index l.bodies)) ≡ messages_from l.start l.bodies
+invariant-loop-bytes l = IsReadSoFar l.messages.items l.place l.bytes-index l.start l.bodies
