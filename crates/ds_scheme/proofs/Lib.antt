@@ -1,0 +1,9 @@
+pub mod Suffixes
+pub mod Firsts
+pub mod Standing
+pub mod Cuts
+pub mod Spelt
+pub mod Owns
+pub mod FramesStand
+pub mod Parts
+pub mod Instances

@@ -1,0 +1,8 @@
+use Rattle.ds_scheme.proofs.Parts.{same_leaf, same_frame}
+use Rattle.ds_scheme.proofs.laws.parts_have_this_scheme.Goals as goal
+
+pub returns-clause-leaf : goal.returns-clause-leaf
+returns-clause-leaf c = same_leaf
+
+pub returns-clause-frame : goal.returns-clause-frame
+returns-clause-frame c = same_frame

@@ -1,0 +1,4 @@
+pub mod Spelled
+pub mod StandingFrames
+pub mod TheScheme
+pub mod Premises
