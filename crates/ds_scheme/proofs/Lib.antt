@@ -4,6 +4,7 @@ pub mod Standing
 pub mod Cuts
 pub mod Spelt
 pub mod Owns
+pub mod Received
 pub mod FramesStand
 pub mod Parts
 pub mod Instances

@@ -109,7 +109,7 @@ abbrev pub frame_on : Written → Frame
 frame_on f = record { number = f.number; bodies = bodies_of f.messages }
 
 module _ (here : PubKey) (inlets : List InletName) where
-  sees_again : (number : ℕ) (messages : List Message) → AllByRecursion MessageFits messages → host_item here inlets (items.Frame (record { number = number; bodies = bodies_of messages })) ≡ Ok (Framed number messages)
+  pub sees_again : (number : ℕ) (messages : List Message) → AllByRecursion MessageFits messages → host_item here inlets (items.Frame (record { number = number; bodies = bodies_of messages })) ≡ Ok (Framed number messages)
   unfolding host_item
   sees_again number messages fit = bind_is (messages_from 11 (bodies_of messages)) _ messages (Ok (Framed number messages)) (messages_again 11 messages fit) refl
 
@@ -127,14 +127,14 @@ module _ (here : PubKey) (inlets : List InletName) where
 
   -- ---- frames, one after the other
 
-  nothing_yet : (lane : LaneCert) → host_reading here inlets (Some lane) [] ≡ Err Open
+  pub nothing_yet : (lane : LaneCert) → host_reading here inlets (Some lane) [] ≡ Err Open
   unfolding host_reading read_item read_frame read_outer_frame number_from
   nothing_yet lane = refl
 
-  abbrev frames_text : LanePlan → List Written → List ℕ
+  abbrev pub frames_text : LanePlan → List Written → List ℕ
   frames_text lane frames = flat_map (λ f. scheme.frame lane.signing f.number f.messages) frames
 
-  abbrev framed : Written → Seen
+  abbrev pub framed : Written → Seen
   framed f = Framed f.number f.messages
 
   -- what a host sees where the first item was read, or nothing was

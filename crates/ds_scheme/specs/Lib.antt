@@ -1,4 +1,5 @@
 pub mod Spelled
 pub mod StandingFrames
 pub mod TheScheme
+pub mod Receivers
 pub mod Premises

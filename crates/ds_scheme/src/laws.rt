@@ -1,13 +1,16 @@
 //! What holds of the scheme. The functions do nothing: their contracts are the laws.
 
-ghost use Rattle.std.specs.Prelude.{◌≡◌, ◌↔◌, ℕ, Bool, true, false, List, [], Option, Some, Ok, map, is_some, slice_get, nat_lt};
+ghost use Rattle.std.specs.Prelude.{◌≡◌, ◌↔◌, ℕ, Bool, true, false, List, [], Contains, Option, Some, None, Ok, find, map, is_some, slice_get, nat_lt};
 ghost use Rattle.std.specs.List.{AllByRecursion};
 ghost use Rattle.ds_wire.specs.Fields.{IsBytes};
 ghost use Rattle.ds_label.specs.declared.category.PubKey.{PubKey};
 ghost use Rattle.ds_label.specs.declared.category.Category.{Category};
+ghost use Rattle.lms_sig.specs.Good.{IsGood};
 ghost use Rattle.lms_sig.specs.Keys.{Key};
 ghost use Rattle.lms_state.specs.Signers.{Signing, leaves_of};
 ghost use Rattle.ds_script.specs.declared.actor.Actor.{Actor};
+ghost use Rattle.ds_cert.specs.Spelling.{signed_part_of_address, signed_part_of_delegation, signed_part_of_lane_cert};
+ghost use Rattle.ds_cert.specs.declared.address.Address.{Address};
 ghost use Rattle.ds_cert.specs.declared.delegation.Delegation.{Delegation};
 ghost use Rattle.ds_cert.specs.declared.lane.LaneCert.{LaneCert};
 ghost use Rattle.ds_msg.specs.declared.message.Message.{Message};
@@ -15,9 +18,10 @@ ghost use Rattle.ds_msg.specs.Ranges.{MessageFits};
 ghost use Rattle.ds_msg.specs.Reading.{read_message};
 ghost use Rattle.ds_msg.specs.Spelling.{spelling_of_message};
 ghost use Rattle.ds_frame.specs.Streams.{stream_by};
+ghost use Rattle.ds_chain.specs.Addresses.{tells};
 ghost use Rattle.ds_chain.specs.Delegated.{chain_to};
 ghost use Rattle.ds_model.specs.Scheme.{InletName};
-ghost use Rattle.ds_model.specs.Plan.{Plan};
+ghost use Rattle.ds_model.specs.Plan.{HostPlan, LanePlan, Plan};
 ghost use Rattle.ds_desk.specs.Signing.{desk_scheme, signing_of};
 ghost use Rattle.ds_lane.specs.declared.batch.Waiting.{Waiting};
 ghost use Rattle.ds_lane.specs.Ends.{fresh_worker, frame_of};
@@ -25,8 +29,9 @@ ghost use Rattle.ds_inlet.specs.Hosts.{host_reading, seen_failure, seen_of_items
 ghost use Rattle.ds_noninterference.specs.Alike.{AlikeWorlds};
 ghost use Rattle.ds_noninterference.specs.Law.{SameArrivals, SameDesks, SameHosts, SameProcesses, SameSections};
 ghost use Rattle.ds_noninterference.specs.Premises.{IsScheme};
-ghost use Rattle.ds_delivery.specs.Premises.{IsReadable};
+ghost use Rattle.ds_delivery.specs.Premises.{CanBeWritten, IsReadable, Written, items_with, stream_with};
 ghost use Rattle.ds_scheme.specs.Premises.{AfterBoth, IsDeliveredLawfully};
+ghost use Rattle.ds_scheme.specs.Receivers.{IsReceiver};
 ghost use Rattle.ds_scheme.specs.Spelled.{HasSpelledLanes, has_spelling};
 ghost use Rattle.ds_scheme.specs.StandingFrames.{FrameStands};
 ghost use Rattle.ds_scheme.specs.TheScheme.{scheme};
@@ -39,6 +44,16 @@ pub fn serves_the_two_run_law()
 /// Over each plan whose lanes have spellings, and for messages that have spellings, the scheme reads what was written.
 pub fn reads_what_was_written()
     ensures { (plan : Plan) → HasSpelledLanes plan → IsReadable scheme has_spelling plan }
+{}
+
+/// What a lane wrote, its receiver reads: the hello and each frame, in their order, and no fault.
+pub fn receivers_read_all()
+    ensures items { (here : HostPlan) (lane : LanePlan) (frames : List Written) → IsReceiver here lane →
+        ((f : Written) → Contains frames f → CanBeWritten scheme has_spelling lane f) →
+        scheme.items here.key here.inlets (stream_with scheme lane frames) ≡ items_with lane frames }
+    ensures ending { (here : HostPlan) (lane : LanePlan) (frames : List Written) → IsReceiver here lane →
+        ((f : Written) → Contains frames f → CanBeWritten scheme has_spelling lane f) →
+        scheme.ending here.key here.inlets (stream_with scheme lane frames) ≡ None }
 {}
 
 /// In each run from setup, over a plan whose lanes have spellings, of messages that have spellings, each message that an
@@ -75,6 +90,16 @@ pub fn parts_have_this_scheme()
         scheme.items here inlets stream ≡ seen_of_items here inlets (stream_by (host_reading here inlets) stream).items }
     ensures ending { (here : PubKey) (inlets : List InletName) (stream : List ℕ) →
         scheme.ending here inlets stream ≡ seen_failure (stream_by (host_reading here inlets) stream).ending }
+{}
+
+/// A certificate is good exactly where its signature is good under the key of the exporter that it names as its signer, over
+/// all that stands before the signature.
+pub fn good_is_signed()
+    ensures delegation { (d : Delegation) → (scheme.good d ≡ true) ↔ IsGood d.by.0 (signed_part_of_delegation d) d.signature }
+    ensures address { (a : Address) → (scheme.good_address a ≡ true) ↔ IsGood a.exporter.0 (signed_part_of_address a) a.signature }
+    ensures lane { (l : LaneCert) → (scheme.good_lane l ≡ true) ↔ IsGood l.exporter.0 (signed_part_of_lane_cert l) l.signature }
+    // The first address certificate of the exporter that is valid at the moment and good.
+    ensures find { (certs : List Address) (moment : ℕ) (exporter : PubKey) → scheme.find certs moment exporter ≡ find (tells moment exporter) certs }
 {}
 
 /// A key that holds a category holds it by a chain, whose delegations stand in the list.

@@ -1,5 +1,11 @@
-//! The one scheme: how this repository signs, spells, reads and chains, as the plain world's open functions; and that it
-//! meets what the law over two runs and lawful delivery ask of a scheme.
+//! The one scheme: the plain world's open functions as the other crates define them. It is what the law over two runs and
+//! lawful delivery ask of a scheme, so both hold of it.
 #![tactic(auto)]
 
-pub mod laws;
+mod laws;
+
+pub use laws::{
+    chains_stand_in_the_list, delivered_lawfully, good_is_signed, messages_have_spellings,
+    parts_have_this_scheme, reads_what_was_written, receivers_read_all, serves_the_two_run_law,
+    signed_frames_stand, two_runs,
+};
