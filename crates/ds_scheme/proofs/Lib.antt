@@ -5,6 +5,7 @@ pub mod Cuts
 pub mod Spelt
 pub mod Owns
 pub mod Received
+pub mod Example
 pub mod FramesStand
 pub mod Parts
 pub mod Instances

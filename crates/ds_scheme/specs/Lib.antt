@@ -3,3 +3,4 @@ pub mod StandingFrames
 pub mod TheScheme
 pub mod Receivers
 pub mod Premises
+pub mod Example

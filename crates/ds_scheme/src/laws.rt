@@ -30,6 +30,7 @@ ghost use Rattle.ds_noninterference.specs.Alike.{AlikeWorlds};
 ghost use Rattle.ds_noninterference.specs.Law.{SameArrivals, SameDesks, SameHosts, SameProcesses, SameSections};
 ghost use Rattle.ds_noninterference.specs.Premises.{IsScheme};
 ghost use Rattle.ds_delivery.specs.Premises.{CanBeWritten, IsReadable, Written, items_with, stream_with};
+ghost use Rattle.ds_scheme.specs.Example.{IsMet, IsRead};
 ghost use Rattle.ds_scheme.specs.Premises.{AfterBoth, IsDeliveredLawfully};
 ghost use Rattle.ds_scheme.specs.Receivers.{IsReceiver};
 ghost use Rattle.ds_scheme.specs.Spelled.{HasSpelledLanes, has_spelling};
@@ -129,4 +130,11 @@ pub fn signed_frames_stand()
         IsBytes stream → scheme.frame_signed key number messages stream ≡ true → FrameStands key number messages stream }
     ensures found { (key : PubKey) (number : ℕ) (messages : List Message) (stream : List ℕ) →
         AllByRecursion MessageFits messages → FrameStands key number messages stream → scheme.frame_signed key number messages stream ≡ true }
+{}
+
+/// A lane of a plan, with a frame of one message, and its receiver: the premises are met, and the receiver reads the hello and
+/// the frame. The keys and the signatures are of LMS.
+pub fn an_example()
+    ensures met { IsMet }
+    ensures read { IsRead }
 {}

@@ -5,7 +5,7 @@
 mod laws;
 
 pub use laws::{
-    chains_stand_in_the_list, delivered_lawfully, good_is_signed, messages_have_spellings,
-    parts_have_this_scheme, reads_what_was_written, receivers_read_all, serves_the_two_run_law,
-    signed_frames_stand, two_runs,
+    an_example, chains_stand_in_the_list, delivered_lawfully, good_is_signed,
+    messages_have_spellings, parts_have_this_scheme, reads_what_was_written, receivers_read_all,
+    serves_the_two_run_law, signed_frames_stand, two_runs,
 };
