@@ -1,6 +1,6 @@
 -- The scheme's functions are those of the parts of a host.
 use Rattle.std.proofs.Common.{◌≡◌, ℕ, List, [], ◌∷◌, map, Option, Some, None, refl, sym, ap, ◌∙◌, false}
-use Rattle.std.specs.Prelude.{filter_map, slice_get, option_map, nat_lt, is_some}
+use Rattle.std.specs.Prelude.{Result, Ok, Err, filter_map, slice_get, option_map, nat_lt, is_some}
 use Rattle.std.proofs.lemmas.Option.{slice_get-map}
 use Rattle.lms_sig.specs.Keys.{Key}
 use Rattle.lms_state.specs.Signers.{Signing, leaves_of, next_signature}
@@ -15,12 +15,15 @@ use Rattle.ds_chain.specs.Delegated.{hop_of, hops_of_list, chain_to}
 use Rattle.ds_chain.specs.Keys.{same_key}
 use Rattle.ds_chain.proofs.Numbered.{same_key_is}
 use Rattle.ds_chain.proofs.Shortest.{shortest_given, holds_given}
-use Rattle.ds_desk.specs.Signing.{signing_of}
+use Rattle.ds_cert.specs.declared.cert.Cert.{Cert}
+use Rattle.ds_cert.specs.Reading.{read_cert}
+use Rattle.ds_desk.specs.Signing.{signing_of, if_read}
 use Rattle.ds_desk.proofs.Grows.{key_again}
 use Rattle.ds_lane.specs.declared.batch.Waiting.{Waiting}
 use Rattle.ds_lane.specs.Ends.{spelled, bodies_of as hand_bodies, frame_of as hand_frame}
 use Rattle.ds_scheme.specs.StandingFrames.{bodies_of}
-use Rattle.ds_scheme.specs.TheScheme.{delegations_at, frame_of, scheme}
+use Rattle.ds_flow.specs.Chains.{delegations_at, flow_scheme, if_read as flow_read}
+use Rattle.ds_scheme.specs.TheScheme.{frame_of, scheme}
 
 abbrev messages_in : List Waiting → List Message
 messages_in hand = map (λ w. w.message) hand
@@ -36,6 +39,14 @@ same_frame s hand =
 
 pub same_leaf : (key : Key) (leaf : ℕ) → scheme.has_leaf (signing_of key) leaf ≡ nat_lt leaf (leaves_of key)
 same_leaf key leaf = ap (λ (k : Key). nat_lt leaf (leaves_of k)) (key_again key)
+
+-- what was read, in the words of judgements and of the desk
+same_read : (r : Result Cert ℕ) → flow_read r ≡ if_read r
+same_read (Ok cert) = refl
+same_read (Err place) = refl
+
+pub same_flow : flow_scheme scheme ≡ scheme
+same_flow i = record scheme { read_cert = λ bytes. same_read (read_cert bytes) i }
 
 -- ---- chains
 

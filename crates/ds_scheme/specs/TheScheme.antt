@@ -1,7 +1,6 @@
 -- The one scheme of this repository: LMS signatures, shortest chains, and the one spelling of certificates, hellos and frames.
-use Rattle.std.specs.Prelude.{ℕ, List, [], Option, Some, None, filter_map, slice_get, nat_lt}
+use Rattle.std.specs.Prelude.{ℕ, List, nat_lt}
 use Rattle.lms_state.specs.Signers.{Signing, leaves_of, next_signature}
-use Rattle.ds_cert.specs.declared.delegation.Delegation.{Delegation}
 use Rattle.ds_cert.specs.Good.{is_good_delegation, is_good_address}
 use Rattle.ds_cert.specs.Reading.{read_cert}
 use Rattle.ds_cert.specs.Spelling.{spelling_of_delegation}
@@ -9,16 +8,12 @@ use Rattle.ds_msg.specs.declared.message.Message.{Message}
 use Rattle.ds_frame.specs.Checks.{is_good_lane_cert}
 use Rattle.ds_frame.specs.Spelling.{part_of_frame, spelling_of_frame, spelling_of_hello}
 use Rattle.ds_chain.specs.Addresses.{find_address}
-use Rattle.ds_chain.specs.Delegated.{key_holds, chain_to}
+use Rattle.ds_chain.specs.Delegated.{key_holds}
 use Rattle.ds_model.specs.Scheme.{Scheme}
+use Rattle.ds_flow.specs.Chains.{chain_of}
 use Rattle.ds_desk.specs.Signing.{key_of, signed_at, if_read}
 use Rattle.ds_inlet.specs.Hosts.{items_of, ending_of}
 use Rattle.ds_scheme.specs.StandingFrames.{bodies_of, frame_stands}
-
--- the delegations at these places, if there are any
-abbrev pub delegations_at : List Delegation → Option (List ℕ) → List Delegation
-delegations_at certs None = []
-delegations_at certs (Some places) = filter_map (slice_get certs) places
 
 -- the frame of messages: its number is the next leaf, and the signature is the one at that leaf
 abbrev pub frame_of : Signing → List Message → List ℕ
@@ -30,7 +25,7 @@ scheme = record {
   good_address = is_good_address;
   good_lane = is_good_lane_cert;
   holds = key_holds;
-  chain = λ certs moment c key. delegations_at certs (chain_to certs moment c key);
+  chain = chain_of;
   find = find_address;
   delegation = λ k leaf by c to from until. signed_at (key_of k) leaf by c to from until;
   spelling = spelling_of_delegation;

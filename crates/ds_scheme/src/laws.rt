@@ -22,6 +22,7 @@ ghost use Rattle.ds_chain.specs.Addresses.{tells};
 ghost use Rattle.ds_chain.specs.Delegated.{chain_to};
 ghost use Rattle.ds_model.specs.Scheme.{InletName};
 ghost use Rattle.ds_model.specs.Plan.{HostPlan, LanePlan, Plan};
+ghost use Rattle.ds_flow.specs.Chains.{flow_scheme};
 ghost use Rattle.ds_desk.specs.Signing.{desk_scheme, signing_of};
 ghost use Rattle.ds_lane.specs.declared.batch.Waiting.{Waiting};
 ghost use Rattle.ds_lane.specs.Ends.{fresh_worker, frame_of};
@@ -79,6 +80,7 @@ pub fn two_runs()
 pub fn parts_have_this_scheme()
     // What holds of a desk under each scheme holds of it under this one.
     ensures desk { desk_scheme scheme ≡ scheme }
+    ensures flow { flow_scheme scheme ≡ scheme }
     // A signer may sign at a leaf that its key has.
     ensures leaf { (key : Key) (leaf : ℕ) → scheme.has_leaf (signing_of key) leaf ≡ nat_lt leaf (leaves_of key) }
     // A lane's stream begins with its hello.
