@@ -1,4 +1,4 @@
-use Rattle.std.proofs.Common.{◌≡◌, arith}
+use Rattle.std.proofs.Common.{arith}
 use Rattle.std.proofs.lemmas.Grind.{common_steps}
 use Rattle.ds_inlet.proofs.Messages.{one_more, in_range_more}
 use Rattle.ds_inlet.proofs.hosts.messages_of.Goals as goal
