@@ -1,6 +1,7 @@
 -- The five checks.
-use Rattle.std.proofs.Common.{◌≡◌, ℕ, Bool, true, false, cond, List, [], ◌∷◌, ◌++◌, Option, Some, None, length, slice_get, flat_map, Contains, refl, sym, ◌∙◌, ap, ap₂, subst, ◌⊎◌, inl, inr, arith}
+use Rattle.std.proofs.Common.{◌≡◌, ◌≢◌, min, take, length-take, ℕ, Bool, true, false, cond, List, [], ◌∷◌, ◌++◌, Option, Some, None, length, slice_get, flat_map, Contains, refl, sym, ◌∙◌, ap, ap₂, subst, ◌⊎◌, inl, inr, arith}
 use Rattle.std.proofs.lemmas.List.Elements.{Contains-append_left, Contains-append_right, Contains-append_cases}
+use Rattle.std.proofs.lemmas.List.{take-append-drop}
 use Rattle.std.specs.Prelude.{nat_lt, if◌then◌else◌}
 use Rattle.ds_label.specs.declared.category.Category.{Category}
 use Rattle.ds_label.specs.declared.rule.Rule.{Rule}
@@ -19,15 +20,15 @@ use Rattle.ds_model.specs.ProcessRules.{mailbox_rule}
 use Rattle.ds_model.specs.Scheme.{Scheme, Framed}
 use Rattle.ds_model.specs.Plan.{HostPlan, LanePlan, Plan, host_plan, wire, box_plan, lane_plan}
 use Rattle.ds_model.specs.Mailbox.{PutIn, FoundFull, box_enter, put, oldest, took}
-use Rattle.ds_model.specs.Lane.{Queued, QueueFull, lane_after, admit_entry, admit}
+use Rattle.ds_model.specs.Lane.{Queued, QueueFull, lane_after, admit_entry, admit, front, lifted, frame_limit}
 use Rattle.ds_model.specs.Inlet.{Inlet, Fresh, inlet_after, is_fresh, numbered}
 use Rattle.ds_model.specs.Inlet as entries
 use Rattle.ds_model.specs.Desk.{Desk}
-use Rattle.ds_model.specs.World.{Process, Mail, Mailbox, Waiting, Queue, Worker, LaneLine, QueuedLine, FullLine, FramedLine, DroppedLine, PassLine, DropLine, Conn, Host, World}
+use Rattle.ds_model.specs.World.{Process, Mail, Mailbox, Waiting, Queue, Worker, LaneLine, QueuedLine, FullLine, FramedLine, DroppedLine, PassLine, DropLine, Conn, Host, World, Passed}
 use Rattle.ds_model.specs.Asking.{Ask, Put, Admit, TakeFrom, Judge, noted, refused, box_of, label_of, Target, Not, Into, target, judge_box, message_of, send_rule, mail_of, send_here, send_away, send, take_rule, take_from, ask_outer, ask_inner, queue_at, ask_hand, ask, told_taken, told_judged}
-use Rattle.ds_model.specs.LaneWork.{Wait, Lift, Check, lane_ask_hand, lane_ask, frame_rule, passes, still_good, told_checked, dropped_line, framed_line, checked_lines, admitted_line}
-use Rattle.ds_model.specs.Connecting.{Quiet, Number, JudgeOne, Hand, peer, inlet_of, fresh_frame, stale_frame, take_frame, frame_from, accept_item, accept_free, accept, put_passed, deliver_to, deliver_from, deliver, target_rule, judge_delivery, told_delivery}
-use Rattle.ds_model.specs.Step.{Step, Frame, Accept, Deliver, judged, attached, arrived, perform, checked_in, perform_lane, step_lane, fresh_in, perform_conn, lined, admitted_lines, oldest_in, step}
+use Rattle.ds_model.specs.LaneWork.{Wait, Lift, Check, lane_ask_hand, lane_ask, frame_rule, passes, still_good, told_checked, told_lifted, dropped_line, framed_line, checked_lines, admitted_line}
+use Rattle.ds_model.specs.Connecting.{Quiet, Number, JudgeOne, Hand, peer, inlet_of, fresh_frame, stale_frame, take_frame, frame_from, accept_item, accept_free, accept, put_passed, deliver_to, deliver_from, deliver, target_rule, judge_delivery, told_delivery, passed_of}
+use Rattle.ds_model.specs.Step.{Step, Frame, Accept, Deliver, judged, attached, arrived, perform, checked_in, front_of, perform_lane, step_lane, fresh_in, perform_conn, step_conn, with_ends, lined, admitted_lines, oldest_in, step}
 use Rattle.ds_model.proofs.Places.{at_still, some_is}
 use Rattle.ds_delivery.specs.Checked.{By, thing, IsAt, IsOpen, FindsRoom, SendChecked, IsFramed, FrameChecked, ArrivalChecked, BoxChecked, TakeChecked, EachChecked}
 use Rattle.ds_delivery.proofs.Afters.{changed, host_after, frame_after, accept_after, deliver_after, accept_end, deliver_end}
@@ -182,43 +183,50 @@ module _ (s : Scheme) (plan : Plan) (w : World) where
   checks : (lane : LanePlan) (e : Worker) (m : Waiting) (others : List Waiting) → e.hand ≡ m ∷ others → lane_ask s lane e ≡ Check
   checks lane e m others hand = ap (lane_ask_hand s lane e) hand
 
+  -- the line of a message that is dropped
+  abbrev line_for : Rule → Waiting → LaneLine
+  line_for rule v = DroppedLine rule v.sender v.message.slot
+
   -- the lines of the messages that are dropped
-  dropped_in : (d : Desk) (hand : List Waiting) (v : Waiting) (rule : Rule) → Contains hand v → frame_rule s d v ≡ Some rule → Contains (flat_map (λ u. dropped_line u (frame_rule s d u)) hand) (DroppedLine rule v)
+  dropped_in : (d : Desk) (hand : List Waiting) (v : Waiting) (rule : Rule) → Contains hand v → frame_rule s d v ≡ Some rule → Contains (flat_map (λ u. dropped_line u (frame_rule s d u)) hand) (line_for rule v)
   dropped_in d [] v rule c r = absurd (in_none v c)
   dropped_in d (u ∷ hand) v rule c r = go (dropped_in d hand v rule) (in_cases u hand v c)
     where
-      go : (Contains hand v → frame_rule s d v ≡ Some rule → Contains (flat_map (λ u. dropped_line u (frame_rule s d u)) hand) (DroppedLine rule v)) → (u ≡ v) ⊎ Contains hand v → Contains (dropped_line u (frame_rule s d u) ++ flat_map (λ u. dropped_line u (frame_rule s d u)) hand) (DroppedLine rule v)
-      go more (inl same) = Contains-append_left (dropped_line u (frame_rule s d u)) (flat_map (λ u. dropped_line u (frame_rule s d u)) hand) (DroppedLine rule v)
-          (subst (λ (z : Waiting). Contains (dropped_line z (frame_rule s d z)) (DroppedLine rule v)) (sym same) (subst (λ o. Contains (dropped_line v o) (DroppedLine rule v)) (sym r) (in_head (DroppedLine rule v) [])))
-      go more (inr t) = Contains-append_right (dropped_line u (frame_rule s d u)) (flat_map (λ u. dropped_line u (frame_rule s d u)) hand) (DroppedLine rule v) (more t r)
+      go : (Contains hand v → frame_rule s d v ≡ Some rule → Contains (flat_map (λ u. dropped_line u (frame_rule s d u)) hand) (line_for rule v)) → (u ≡ v) ⊎ Contains hand v → Contains (dropped_line u (frame_rule s d u) ++ flat_map (λ u. dropped_line u (frame_rule s d u)) hand) (line_for rule v)
+      go more (inl same) = Contains-append_left (dropped_line u (frame_rule s d u)) (flat_map (λ u. dropped_line u (frame_rule s d u)) hand) (line_for rule v)
+          (subst (λ (z : Waiting). Contains (dropped_line z (frame_rule s d z)) (line_for rule v)) (sym same) (subst (λ o. Contains (dropped_line v o) (line_for rule v)) (sym r) (in_head (line_for rule v) [])))
+      go more (inr t) = Contains-append_right (dropped_line u (frame_rule s d u)) (flat_map (λ u. dropped_line u (frame_rule s d u)) hand) (line_for rule v) (more t r)
 
-  one_dropped : (u v : Waiting) (rule : Rule) (o : Option Rule) → Contains (dropped_line u o) (DroppedLine rule v) → (u ≡ v) × (o ≡ Some rule)
-  one_dropped u v rule None c = absurd (in_none _ c)
-  one_dropped u v rule (Some r) c = go (in_cases (DroppedLine r u) [] (DroppedLine rule v) c)
+  one_dropped : (u : Waiting) (rule : Rule) (sender slot : ℕ) (o : Option Rule) → Contains (dropped_line u o) (DroppedLine rule sender slot) → (o ≡ Some rule) × (u.sender ≡ sender) × (u.message.slot ≡ slot)
+  one_dropped u rule sender slot None c = absurd (in_none _ c)
+  one_dropped u rule sender slot (Some r) c = go (in_cases (DroppedLine r u.sender u.message.slot) [] (DroppedLine rule sender slot) c)
     where
-      go : (DroppedLine r u ≡ DroppedLine rule v) ⊎ Contains [] (DroppedLine rule v) → (u ≡ v) × (Some r ≡ Some rule)
-      go (inl e) = (cc, cc)
+      go : (DroppedLine r u.sender u.message.slot ≡ DroppedLine rule sender slot) ⊎ Contains [] (DroppedLine rule sender slot) → (Some r ≡ Some rule) × (u.sender ≡ sender) × (u.message.slot ≡ slot)
+      go (inl e) = (cc, cc, cc)
       go (inr t) = absurd (in_none _ t)
 
-  in_dropped : (d : Desk) (hand : List Waiting) (v : Waiting) (rule : Rule) → Contains (flat_map (λ u. dropped_line u (frame_rule s d u)) hand) (DroppedLine rule v) → Contains hand v × (frame_rule s d v ≡ Some rule)
-  in_dropped d [] v rule c = absurd (in_none _ c)
-  in_dropped d (u ∷ hand) v rule c = go (in_dropped d hand v rule) (Contains-append_cases (dropped_line u (frame_rule s d u)) (flat_map (λ u. dropped_line u (frame_rule s d u)) hand) (DroppedLine rule v) c)
-    where
-      go : (Contains (flat_map (λ u. dropped_line u (frame_rule s d u)) hand) (DroppedLine rule v) → Contains hand v × (frame_rule s d v ≡ Some rule)) → Contains (dropped_line u (frame_rule s d u)) (DroppedLine rule v) ⊎ Contains (flat_map (λ u. dropped_line u (frame_rule s d u)) hand) (DroppedLine rule v) → Contains (u ∷ hand) v × (frame_rule s d v ≡ Some rule)
-      go more (inl t) = let o : (u ≡ v) × (frame_rule s d u ≡ Some rule) = one_dropped u v rule (frame_rule s d u) t in
-          (subst (Contains (u ∷ hand)) o.0 (in_head u hand), subst (λ z. frame_rule s d z ≡ Some rule) o.0 o.1)
-      go more (inr t) = (in_tail u hand v (more t).0, (more t).1)
+  -- who was dropped
+  abbrev Dropped : Desk → List Waiting → Rule → (sender slot : ℕ) → Type 0
+  Dropped d hand rule sender slot = (v : Waiting) × Contains hand v × (frame_rule s d v ≡ Some rule) × (v.sender ≡ sender) × (v.message.slot ≡ slot)
 
-  no_framed_line : (leaf : ℕ) (good : List Waiting) (v : Waiting) (rule : Rule) → Contains (framed_line leaf good) (DroppedLine rule v) → ⊥
-  no_framed_line leaf [] v rule c = in_none _ c
-  no_framed_line leaf (u ∷ good) v rule c = go (in_cases (FramedLine leaf (length (u ∷ good))) [] (DroppedLine rule v) c)
+  in_dropped : (d : Desk) (hand : List Waiting) (rule : Rule) (sender slot : ℕ) → Contains (flat_map (λ u. dropped_line u (frame_rule s d u)) hand) (DroppedLine rule sender slot) → Dropped d hand rule sender slot
+  in_dropped d [] rule sender slot c = absurd (in_none _ c)
+  in_dropped d (u ∷ hand) rule sender slot c = go (in_dropped d hand rule sender slot) (Contains-append_cases (dropped_line u (frame_rule s d u)) (flat_map (λ u. dropped_line u (frame_rule s d u)) hand) (DroppedLine rule sender slot) c)
     where
-      go : (FramedLine leaf (length (u ∷ good)) ≡ DroppedLine rule v) ⊎ Contains [] (DroppedLine rule v) → ⊥
+      go : (Contains (flat_map (λ u. dropped_line u (frame_rule s d u)) hand) (DroppedLine rule sender slot) → Dropped d hand rule sender slot) → Contains (dropped_line u (frame_rule s d u)) (DroppedLine rule sender slot) ⊎ Contains (flat_map (λ u. dropped_line u (frame_rule s d u)) hand) (DroppedLine rule sender slot) → Dropped d (u ∷ hand) rule sender slot
+      go more (inl t) = let f = one_dropped u rule sender slot (frame_rule s d u) t in (u, in_head u hand, f.0, f.1, f.2)
+      go more (inr t) = let o : Dropped d hand rule sender slot = more t in (o.0, in_tail u hand o.0 o.1, o.2, o.3, o.4)
+
+  no_framed_line : (leaf : ℕ) (good : List Waiting) (rule : Rule) (sender slot : ℕ) → Contains (framed_line leaf good) (DroppedLine rule sender slot) → ⊥
+  no_framed_line leaf [] rule sender slot c = in_none _ c
+  no_framed_line leaf (u ∷ good) rule sender slot c = go (in_cases (FramedLine leaf (length (u ∷ good))) [] (DroppedLine rule sender slot) c)
+    where
+      go : (FramedLine leaf (length (u ∷ good)) ≡ DroppedLine rule sender slot) ⊎ Contains [] (DroppedLine rule sender slot) → ⊥
       go (inl e) = grind arith
       go (inr t) = in_none _ t
 
-  each_framed : (d : Desk) (e : Worker) (v : Waiting) → Contains e.hand v → (r : Option Rule) → frame_rule s d v ≡ r → By r (λ rule. Contains (checked_lines s d e) (DroppedLine rule v)) (Contains (still_good s d e.hand) v)
-  each_framed d e v c (Some rule) r = Contains-append_left (flat_map (λ u. dropped_line u (frame_rule s d u)) e.hand) (framed_line e.leaf (still_good s d e.hand)) (DroppedLine rule v) (dropped_in d e.hand v rule c r)
+  each_framed : (d : Desk) (e : Worker) (v : Waiting) → Contains e.hand v → (r : Option Rule) → frame_rule s d v ≡ r → By r (λ rule. Contains (checked_lines s d e) (line_for rule v)) (Contains (still_good s d e.hand) v)
+  each_framed d e v c (Some rule) r = Contains-append_left (flat_map (λ u. dropped_line u (frame_rule s d u)) e.hand) (framed_line e.leaf (still_good s d e.hand)) (line_for rule v) (dropped_in d e.hand v rule c r)
   each_framed d e v c None r = filter_in (λ u. passes (frame_rule s d u)) e.hand v c (ap passes r)
 
   frames : (h l : ℕ) (x : Host) (e : Worker) (m : Waiting) (others : List Waiting) (log : List LaneLine) → slice_get w.hosts h ≡ Some x → slice_get x.workers l ≡ Some e → e.hand ≡ m ∷ others → slice_get x.logs l ≡ Some log → IsFramed s plan w h l x e log
@@ -229,15 +237,15 @@ module _ (s : Scheme) (plan : Plan) (w : World) where
     log_after = ap (λ (q : Option Host). onward q (λ u. slice_get u.logs l)) after ∙ (changed l (lined (checked_in s x.desk (slice_get x.workers l))) x.logs log prints ∙ ap (λ o. Some (log ++ checked_in s x.desk o)) works);
     each = λ v c. each_framed x.desk e v c (frame_rule s x.desk v) refl;
     only = λ v c. let g : Contains e.hand v × (passes (frame_rule s x.desk v) ≡ true) = in_filter (λ u. passes (frame_rule s x.desk u)) e.hand v c in (g.0, passes_none (frame_rule s x.desk v) g.1);
-    no_more = λ v rule c. no_more v rule (Contains-append_cases (flat_map (λ u. dropped_line u (frame_rule s x.desk u)) e.hand) (framed_line e.leaf (still_good s x.desk e.hand)) (DroppedLine rule v) c);
+    no_more = λ rule sender slot c. no_more rule sender slot (Contains-append_cases (flat_map (λ u. dropped_line u (frame_rule s x.desk u)) e.hand) (framed_line e.leaf (still_good s x.desk e.hand)) (DroppedLine rule sender slot) c);
   }
     where
       after : slice_get (step s plan w (Frame h l)).hosts h ≡ Some (perform_lane s (host_plan plan h) x l Check)
       after = frame_after s plan w h l x e Check stands works (checks (lane_plan (host_plan plan h) l) e m others hand)
 
-      no_more : (v : Waiting) (rule : Rule) → Contains (flat_map (λ u. dropped_line u (frame_rule s x.desk u)) e.hand) (DroppedLine rule v) ⊎ Contains (framed_line e.leaf (still_good s x.desk e.hand)) (DroppedLine rule v) → Contains e.hand v × (frame_rule s x.desk v ≡ Some rule)
-      no_more v rule (inl c) = in_dropped x.desk e.hand v rule c
-      no_more v rule (inr c) = absurd (no_framed_line e.leaf (still_good s x.desk e.hand) v rule c)
+      no_more : (rule : Rule) (sender slot : ℕ) → Contains (flat_map (λ u. dropped_line u (frame_rule s x.desk u)) e.hand) (DroppedLine rule sender slot) ⊎ Contains (framed_line e.leaf (still_good s x.desk e.hand)) (DroppedLine rule sender slot) → Dropped x.desk e.hand rule sender slot
+      no_more rule sender slot (inl c) = in_dropped x.desk e.hand rule sender slot c
+      no_more rule sender slot (inr c) = absurd (no_framed_line e.leaf (still_good s x.desk e.hand) rule sender slot c)
 
   waits : (h l : ℕ) (x : Host) (e : Worker) → slice_get w.hosts h ≡ Some x → slice_get x.workers l ≡ Some e → e.hand ≡ [] → s.has_leaf (lane_plan (host_plan plan h) l).signing e.leaf ≡ false → step s plan w (Frame h l) ≡ w
   waits h l x e stands works hand spent = ap (λ hs. record { hosts = hs; conns = w.conns }) (at_still h (λ x'. step_lane s (host_plan plan h) x' l (slice_get x'.workers l)) w.hosts still)
@@ -249,8 +257,28 @@ module _ (s : Scheme) (plan : Plan) (w : World) where
       still x' there = subst (λ u. step_lane s (host_plan plan h) u l (slice_get u.workers l) ≡ u) (some_is x x' (sym stands ∙ there))
           (ap (step_lane s (host_plan plan h) x l) works ∙ ap (perform_lane s (host_plan plan h) x l) asks)
 
+  -- what waits is lifted or waits on
+  parted : (q : Queue) → (front q ++ lifted q ≡ q) × (length (front q) ≡ min 16 (length q))
+  parted [] = (refl, refl)
+  parted (m ∷ q) = (take-append-drop (min frame_limit (length (m ∷ q))) (m ∷ q), let long : length (take (min frame_limit (length (m ∷ q))) (m ∷ q)) ≡ min (min frame_limit (length (m ∷ q))) (length (m ∷ q)) = length-take (min frame_limit (length (m ∷ q))) (m ∷ q) in omega (arith, long))
+
+  lifts : (h l : ℕ) (x : Host) (e : Worker) (q : Queue) → slice_get w.hosts h ≡ Some x → slice_get x.workers l ≡ Some e → slice_get x.queues l ≡ Some q → e.hand ≡ [] → s.has_leaf (lane_plan (host_plan plan h) l).signing e.leaf ≡ true →
+      (first : Queue) × (rest : Queue) × (q ≡ first ++ rest) × (length first ≡ min 16 (length q))
+      × (thing (step s plan w (Frame h l)) h (λ u. u.workers) l ≡ Some (record e { hand = first })) × (thing (step s plan w (Frame h l)) h (λ u. u.queues) l ≡ Some rest)
+  lifts h l x e q stands works queued hand ready = (
+    front q,
+    lifted q,
+    sym (parted q).0,
+    (parted q).1,
+    ap (λ (o : Option Host). onward o (λ u. slice_get u.workers l)) after ∙ (changed l (told_lifted (front_of (slice_get x.queues l))) x.workers e works ∙ ap (λ o. Some (told_lifted (front_of o) e)) queued),
+    ap (λ (o : Option Host). onward o (λ u. slice_get u.queues l)) after ∙ changed l lifted x.queues q queued,
+  )
+    where
+      after : slice_get (step s plan w (Frame h l)).hosts h ≡ Some (perform_lane s (host_plan plan h) x l Lift)
+      after = frame_after s plan w h l x e Lift stands works (ap (lane_ask_hand s (lane_plan (host_plan plan h) l) e) hand ∙ ap (λ b. cond b Lift Wait) ready)
+
   pub frame_checked : FrameChecked s plan w
-  frame_checked = record { judges = frames; waits = waits }
+  frame_checked = record { judges = frames; waits = waits; lifts = lifts }
 
   -- CONNECTIONS
 
@@ -296,19 +324,39 @@ module _ (s : Scheme) (plan : Plan) (w : World) where
     delivery_by : (m : Message) (others : List Message) → deliver s here y bytes ≡ JudgeOne lane m others → (r : Option Rule) → judge_delivery s here x.desk lane m ≡ r →
         By r
         (λ rule. slice_get (step s plan w (Deliver k)).conns k ≡ Some (record y { hand = others; lines = y.lines ++ DropLine rule m.slot ∷ [] }))
-        (slice_get (step s plan w (Deliver k)).conns k ≡ Some (record y { hand = others; passed = Some m; lines = y.lines ++ PassLine m.slot ∷ [] }))
-    delivery_by m others is (Some rule) r = deliver_after s plan w k x y open'.stands open'.here (JudgeOne lane m others) is ∙ ap (λ o. Some (told_delivery m others o y)) r
-    delivery_by m others is None r = deliver_after s plan w k x y open'.stands open'.here (JudgeOne lane m others) is ∙ ap (λ o. Some (told_delivery m others o y)) r
+        (slice_get (step s plan w (Deliver k)).conns k ≡ Some (record y { hand = others; passed = Some (passed_of lane m); lines = y.lines ++ PassLine m.slot ∷ [] }))
+    delivery_by m others is (Some rule) r = deliver_after s plan w k x y open'.stands open'.here (JudgeOne lane m others) is ∙ ap (λ o. Some (told_delivery lane m others o y)) r
+    delivery_by m others is None r = deliver_after s plan w k x y open'.stands open'.here (JudgeOne lane m others) is ∙ ap (λ o. Some (told_delivery lane m others o y)) r
 
-    puts_passed : (b : ℕ) (m : Message) → y.passed ≡ Some m → box_of here m.slot ≡ Some b → deliver s here y bytes ≡ Hand b (mail_of lane.exporter m) (record y { passed = None })
-    puts_passed b m passed box = delivers_to ∙ (ap (deliver_to here y lane y.hand) passed ∙ ap (put_passed y (mail_of lane.exporter m)) box)
+    puts_passed : (b : ℕ) (p : Passed) → y.passed ≡ Some p → box_of here p.slot ≡ Some b → deliver s here y bytes ≡ Hand b p.mail (record y { passed = None })
+    puts_passed b p passed box = delivers_to ∙ (ap (deliver_to here y lane y.hand) passed ∙ ap (put_passed y p.mail) box)
 
-    passed_room : (b : ℕ) (m : Message) → deliver s here y bytes ≡ Hand b (mail_of lane.exporter m) (record y { passed = None }) → FindsRoom s plan w (wire plan k).host b x (step s plan w (Deliver k)) (mail_of lane.exporter m)
-    passed_room b m is = box_room s plan w (wire plan k).host x (step s plan w (Deliver k)) (mail_of lane.exporter m) b (perform_conn s here x y (Hand b (mail_of lane.exporter m) (record y { passed = None }))).host
-        (deliver_end s plan w k x y open'.stands open'.here (Hand b (mail_of lane.exporter m) (record y { passed = None })) is) refl
+    passed_room : (b : ℕ) (p : Passed) → deliver s here y bytes ≡ Hand b p.mail (record y { passed = None }) → FindsRoom s plan w (wire plan k).host b x (step s plan w (Deliver k)) p.mail
+    passed_room b p is = box_room s plan w (wire plan k).host x (step s plan w (Deliver k)) p.mail b (perform_conn s here x y (Hand b p.mail (record y { passed = None }))).host
+        (deliver_end s plan w k x y open'.stands open'.here (Hand b p.mail (record y { passed = None })) is) refl
+
+  -- a connection that is busy takes nothing
+  busy : (k : ℕ) (x : Host) (y : Conn) (lane : LaneCert) → IsOpen s plan w k x y lane → (y.hand ≢ []) ⊎ (y.passed ≢ None) → step s plan w (Accept k) ≡ w
+  busy k x y lane is b =
+      ap₂ (λ o q. step_conn s plan w (wire plan k).host k asks o q) is.stands is.here
+      ∙ (ap (λ a. with_ends w (wire plan k).host k (perform_conn s (host_plan plan (wire plan k).host) x y a)) quiet
+      ∙ λ i. record { hosts = at_still (wire plan k).host (λ _. x) w.hosts (λ z e. some_is x z (sym is.stands ∙ e)) i; conns = at_still k (λ _. y) w.conns (λ z e. some_is y z (sym is.here ∙ e)) i })
+    where
+      asks : Conn → ConnAsk
+      asks conn = accept s (host_plan plan (wire plan k).host) conn (arrived w (wire plan k).source conn)
+
+      free : (hand : List Message) (passed : Option Message) → (hand ≢ []) ⊎ (passed ≢ None) → accept_free s (host_plan plan (wire plan k).host) y (arrived w (wire plan k).source y) hand passed y.failed ≡ Quiet
+      free [] None (inl n) = absurd (n refl)
+      free [] None (inr n) = absurd (n refl)
+      free [] (Some m) n = refl
+      free (m ∷ hand) passed n = refl
+
+      quiet : asks y ≡ Quiet
+      quiet = ap (λ b. cond b Quiet (accept_free s (host_plan plan (wire plan k).host) y (arrived w (wire plan k).source y) y.hand y.passed y.failed)) is.runs ∙ free y.hand y.passed b
 
   pub arrival_checked : ArrivalChecked s plan w
   arrival_checked = record {
+    waits = busy;
     takes = λ k i number x y lane messages last is hand passed failed item inlet counts. number_by k x y lane is i number messages last counts (accepts_frame k x y lane is i number messages hand passed failed item inlet) (is_fresh number last) refl;
     judges = λ k x y lane m others is hand passed. delivery_by k x y lane is m others (delivers_to k x y lane is ∙ ap₂ (λ ms o. deliver_to (host_plan plan (wire plan k).host) y lane ms o) hand passed) (judge_delivery s (host_plan plan (wire plan k).host) x.desk lane m) refl;
   }
@@ -317,9 +365,9 @@ module _ (s : Scheme) (plan : Plan) (w : World) where
   box_checked = record {
     judges = λ h p x y host slot reg label own clear m is says mine. here_by h p x y is.stands is.acts m (send_rule (host_plan plan h) y m) (judge_box (host_plan plan h) m.slot m.label) refl refl
         (asks_send h p x y host slot reg label own clear m is says ∙ ap (λ b. cond b (send_here (host_plan plan h) y m (send_rule (host_plan plan h) y m) (judge_box (host_plan plan h) m.slot m.label)) (send_away y m (send_rule (host_plan plan h) y m))) mine);
-    puts = λ k b x y lane m is passed box.
-        let asks : deliver s (host_plan plan (wire plan k).host) y (arrived w (wire plan k).source y) ≡ Hand b (mail_of lane.exporter m) (record y { passed = None }) = puts_passed k x y lane is b m passed box in
-        (deliver_after s plan w k x y is.stands is.here (Hand b (mail_of lane.exporter m) (record y { passed = None })) asks, passed_room k x y lane is b m asks);
+    puts = λ k b x y lane p is passed box.
+        let asks : deliver s (host_plan plan (wire plan k).host) y (arrived w (wire plan k).source y) ≡ Hand b p.mail (record y { passed = None }) = puts_passed k x y lane is b p passed box in
+        (deliver_after s plan w k x y is.stands is.here (Hand b p.mail (record y { passed = None })) asks, passed_room k x y lane is b p asks);
   }
 
 pub each_checked : EachChecked

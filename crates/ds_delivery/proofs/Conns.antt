@@ -5,7 +5,7 @@ use Rattle.ds_cert.specs.declared.lane.LaneCert.{LaneCert}
 use Rattle.ds_msg.specs.declared.message.Message.{Message}
 use Rattle.ds_model.specs.Scheme.{Scheme, Item, Hello, Framed, Failure}
 use Rattle.ds_model.specs.Plan.{HostPlan}
-use Rattle.ds_model.specs.World.{Mail, Conn}
+use Rattle.ds_model.specs.World.{Mail, Conn, Passed}
 use Rattle.ds_model.specs.Asking.{box_of, mail_of}
 use Rattle.ds_model.specs.Connecting.{ConnAsk, Quiet, Become, Number, JudgeOne, Hand, peer, inlet_of, fresh_frame, stale_frame, take_frame, frame_from, fail, accept_item, accept_free, accept, put_passed, deliver_to, deliver_from, deliver}
 use Rattle.ds_model.proofs.Places.{cond_case}
@@ -51,7 +51,7 @@ item_facts s plan y bytes None e = fail_facts s plan y bytes (s.ending plan.key 
 item_facts s plan y bytes (Some (Hello cert)) e = record { link = refl; count = refl; hand = refl; passed = refl }
 item_facts s plan y bytes (Some (Framed n ms)) e = frame_facts s plan y bytes n ms _ refl e
 
-free_facts : (s : Scheme) (plan : HostPlan) (y : Conn) (bytes : List ℕ) (hand : List Message) (passed : Option Message) (failed : Option Failure) → AcceptFacts s plan y bytes (accept_free s plan y bytes hand passed failed)
+free_facts : (s : Scheme) (plan : HostPlan) (y : Conn) (bytes : List ℕ) (hand : List Message) (passed : Option Passed) (failed : Option Failure) → AcceptFacts s plan y bytes (accept_free s plan y bytes hand passed failed)
 free_facts s plan y bytes [] None None = item_facts s plan y bytes _ refl
 free_facts s plan y bytes (m ∷ hand) passed failed = tt
 free_facts s plan y bytes [] (Some m) failed = tt
@@ -69,11 +69,11 @@ pub record JudgeFacts (s : Scheme) (plan : HostPlan) (y : Conn) (bytes : List �
 
 pub record HandFacts (s : Scheme) (plan : HostPlan) (y : Conn) (bytes : List ℕ) (b : ℕ) (mail : Mail Category) (next : Conn) : Type 0 where
   pub cert : LaneCert
-  pub message : Message
+  pub left : Passed
   pub read : peer s plan bytes ≡ Some cert
-  pub passed : y.passed ≡ Some message
-  pub box : box_of plan message.slot ≡ Some b
-  pub mail_is : mail ≡ mail_of cert.exporter message
+  pub passed : y.passed ≡ Some left
+  pub box : box_of plan left.slot ≡ Some b
+  pub mail_is : mail ≡ left.mail
   pub next_is : next ≡ record y { passed = None }
 
 abbrev pub DeliverFacts : Scheme → HostPlan → Conn → List ℕ → ConnAsk → Type 0
@@ -83,11 +83,11 @@ DeliverFacts s plan y bytes (Number i number fresh stale) = ⊥
 DeliverFacts s plan y bytes (JudgeOne cert m rest) = JudgeFacts s plan y bytes cert m rest
 DeliverFacts s plan y bytes (Hand b mail next) = HandFacts s plan y bytes b mail next
 
-put_facts : (s : Scheme) (plan : HostPlan) (y : Conn) (bytes : List ℕ) (cert : LaneCert) (m : Message) (o : Option ℕ) → peer s plan bytes ≡ Some cert → y.passed ≡ Some m → box_of plan m.slot ≡ o → DeliverFacts s plan y bytes (put_passed y (mail_of cert.exporter m) o)
+put_facts : (s : Scheme) (plan : HostPlan) (y : Conn) (bytes : List ℕ) (cert : LaneCert) (m : Passed) (o : Option ℕ) → peer s plan bytes ≡ Some cert → y.passed ≡ Some m → box_of plan m.slot ≡ o → DeliverFacts s plan y bytes (put_passed y m.mail o)
 put_facts s plan y bytes cert m None e q box = tt
-put_facts s plan y bytes cert m (Some b) e q box = record { cert = cert; message = m; read = e; passed = q; box = box; mail_is = refl; next_is = refl }
+put_facts s plan y bytes cert m (Some b) e q box = record { cert = cert; left = m; read = e; passed = q; box = box; mail_is = refl; next_is = refl }
 
-to_facts : (s : Scheme) (plan : HostPlan) (y : Conn) (bytes : List ℕ) (cert : LaneCert) (hand : List Message) (o : Option Message) → peer s plan bytes ≡ Some cert → y.hand ≡ hand → y.passed ≡ o → DeliverFacts s plan y bytes (deliver_to plan y cert hand o)
+to_facts : (s : Scheme) (plan : HostPlan) (y : Conn) (bytes : List ℕ) (cert : LaneCert) (hand : List Message) (o : Option Passed) → peer s plan bytes ≡ Some cert → y.hand ≡ hand → y.passed ≡ o → DeliverFacts s plan y bytes (deliver_to plan y cert hand o)
 to_facts s plan y bytes cert hand (Some m) e h q = put_facts s plan y bytes cert m (box_of plan m.slot) e q refl
 to_facts s plan y bytes cert [] None e h q = tt
 to_facts s plan y bytes cert (m ∷ rest) None e h q = record { read = e; first = h; free = q }

@@ -4,8 +4,8 @@ use Rattle.ds_cert.specs.declared.lane.LaneCert.{LaneCert}
 use Rattle.ds_msg.specs.declared.message.Message.{Message}
 use Rattle.ds_model.specs.Scheme.{Scheme, Item, Hello, Framed}
 use Rattle.ds_model.specs.Plan.{HostPlan, LanePlan, Plan, Source, OfLane, host_plan, wire, lane_plan}
-use Rattle.ds_model.specs.World.{Waiting, Worker, Conn, Host, World}
-use Rattle.ds_model.specs.Connecting.{hello_of}
+use Rattle.ds_model.specs.World.{Waiting, Worker, Conn, Host, World, Passed}
+use Rattle.ds_model.specs.Connecting.{hello_of, passed_of}
 use Rattle.ds_model.specs.Step.{Event, stream_from, worker_at, arrived, run}
 use Rattle.ds_model.specs.Lawful.{Past, PutsFrom, JudgedFrom, TakenFrom, FramedOn, SentBy, WroteFrame, OwnFrom, RulesFrom}
 use Rattle.ds_model.proofs.Places.{none_some, some_is}
@@ -122,32 +122,34 @@ module _ (s : Scheme) (has_spelling : Message → Bool) (plan : Plan) (start : W
           let f : (g : Written) × Contains st.frames g × (g.number ≡ number) × (g.messages ≡ messages) = item_framed (lane_plan (host_plan plan h) l) st.frames number messages (read taken.conn.taken (Framed number messages) taken.item) in
           wrote_sent h l number messages m events (subst (λ ms. WroteFrame s plan start h l number ms events) f.3 (subst (λ n. WroteFrame s plan start h l n f.0.messages events) f.2 (st.wrote f.0 f.1))) c
 
-  rules_from : (before : List Event) (e : Event) → Spells s has_spelling plan start before → (k b : ℕ) (lane : LaneCert) (m : Message) → PutsFrom s plan start k b lane m before e → RulesFrom s plan start k b lane m before
-  rules_from before e spells k b lane m puts = record {
+  rules_from : (before : List Event) (e : Event) → Spells s has_spelling plan start before → (k b : ℕ) (lane : LaneCert) (p : Passed) → PutsFrom s plan start k b lane p before e → RulesFrom s plan start k b lane p before
+  rules_from before e spells k b lane p puts = record {
+    m = old.m;
+    says = old.says ∙ ap (λ (l : LaneCert). passed_of l old.m) same;
     number = old.number;
     messages = old.messages;
     good = is.good (host_plan plan (wire plan k).host) lane (arrived (run s plan start before) (wire plan k).source puts.conn) puts.hello;
     among = old.among;
     place = found (deliver s (host_plan plan (wire plan k).host) puts.conn (arrived (run s plan start before) (wire plan k).source puts.conn)) (deliver_facts s (host_plan plan (wire plan k).host) puts.conn (arrived (run s plan start before) (wire plan k).source puts.conn)) puts.asks;
-    judged = subst (λ c. Past before (λ b e. JudgedFrom s plan start k c m b e × Past b (λ b' e'. TakenFrom s plan start k c old.number old.messages b' e' × OwnFrom s plan start k c old.number old.messages m b'))) same (judged old.judged);
-    link = λ h l source real mine wrote. wrote_sent h l old.number old.messages m before wrote old.among;
+    judged = subst (λ c. Past before (λ b e. JudgedFrom s plan start k c old.m b e × Past b (λ b' e'. TakenFrom s plan start k c old.number old.messages b' e' × OwnFrom s plan start k c old.number old.messages old.m b'))) same (judged old.judged);
+    link = λ h l source real mine wrote. wrote_sent h l old.number old.messages old.m before wrote old.among;
   }
     where
-      old : IsPassed s has_spelling plan start is before k (arrived (run s plan start before) (wire plan k).source puts.conn) m
-      old = ((kept before).conns k puts.conn puts.here).passed m puts.passed
+      old : IsPassed s has_spelling plan start is before k (arrived (run s plan start before) (wire plan k).source puts.conn) p
+      old = ((kept before).conns k puts.conn puts.here).passed p puts.passed
 
-      found : (a : ConnAsk) → DeliverFacts s (host_plan plan (wire plan k).host) puts.conn (arrived (run s plan start before) (wire plan k).source puts.conn) a → a ≡ Hand b (mail_of lane.exporter m) puts.next → box_of (host_plan plan (wire plan k).host) m.slot ≡ Some b
+      found : (a : ConnAsk) → DeliverFacts s (host_plan plan (wire plan k).host) puts.conn (arrived (run s plan start before) (wire plan k).source puts.conn) a → a ≡ Hand b p.mail puts.next → box_of (host_plan plan (wire plan k).host) old.m.slot ≡ Some b
       found a f a_is =
-          let g : HandFacts s (host_plan plan (wire plan k).host) puts.conn (arrived (run s plan start before) (wire plan k).source puts.conn) b (mail_of lane.exporter m) puts.next = subst (DeliverFacts s (host_plan plan (wire plan k).host) puts.conn (arrived (run s plan start before) (wire plan k).source puts.conn)) a_is f in
-          ap (λ (n : Message). box_of (host_plan plan (wire plan k).host) n.slot) (some_is m g.message (sym puts.passed ∙ g.passed)) ∙ g.box
+          let g : HandFacts s (host_plan plan (wire plan k).host) puts.conn (arrived (run s plan start before) (wire plan k).source puts.conn) b p.mail puts.next = subst (DeliverFacts s (host_plan plan (wire plan k).host) puts.conn (arrived (run s plan start before) (wire plan k).source puts.conn)) a_is f in
+          ap (λ (n : Passed). box_of (host_plan plan (wire plan k).host) n.slot) (sym old.says ∙ some_is p g.left (sym puts.passed ∙ g.passed)) ∙ g.box
 
       same : old.lane ≡ lane
       same = some_is old.lane lane (sym old.read ∙ puts.hello)
 
-      judged : Past before (λ b e. JudgedFrom s plan start k old.lane m b e × Past b (λ b' e'. TakenFrom s plan start k old.lane old.number old.messages b' e')) →
-          Past before (λ b e. JudgedFrom s plan start k old.lane m b e × Past b (λ b' e'. TakenFrom s plan start k old.lane old.number old.messages b' e' × OwnFrom s plan start k old.lane old.number old.messages m b'))
+      judged : Past before (λ b e. JudgedFrom s plan start k old.lane old.m b e × Past b (λ b' e'. TakenFrom s plan start k old.lane old.number old.messages b' e')) →
+          Past before (λ b e. JudgedFrom s plan start k old.lane old.m b e × Past b (λ b' e'. TakenFrom s plan start k old.lane old.number old.messages b' e' × OwnFrom s plan start k old.lane old.number old.messages old.m b'))
       judged (b, e, after, split, (j, (b', e', after', split', taken))) =
-          (b, e, after, split, (j, (b', e', after', split', (taken, taken_own b' (spells_front b b' (e' ∷ after') split' (spells_front before b (e ∷ after) split spells)) k old.lane old.number old.messages m e' taken old.among))))
+          (b, e, after, split, (j, (b', e', after', split', (taken, taken_own b' (spells_front b b' (e' ∷ after') split' (spells_front before b (e ∷ after) split spells)) k old.lane old.number old.messages old.m e' taken old.among))))
 
 pub delivered_lawfully : DeliveredLawfully
 delivered_lawfully s has_spelling plan start events premises = record {

@@ -9,8 +9,8 @@ use Rattle.ds_model.specs.Scheme.{Scheme}
 use Rattle.ds_model.specs.Plan.{Plan, host_plan, wire}
 use Rattle.ds_model.specs.Inlet.{Inlet, is_fresh}
 use Rattle.ds_label.specs.declared.category.Category.{Category}
-use Rattle.ds_model.specs.World.{Mail, Conn, Host, World}
-use Rattle.ds_model.specs.Connecting.{target_rule, ConnAsk, Quiet, Become, Number, JudgeOne, Hand, peer, fresh_frame, stale_frame, accept, deliver, judge_delivery, told_delivery}
+use Rattle.ds_model.specs.World.{Mail, Conn, Host, World, Passed}
+use Rattle.ds_model.specs.Connecting.{target_rule, ConnAsk, Quiet, Become, Number, JudgeOne, Hand, peer, fresh_frame, stale_frame, accept, deliver, judge_delivery, told_delivery, passed_of}
 use Rattle.ds_model.specs.Step.{Event, Accept, Deliver, fresh_in, perform_conn, arrived, resolve, run}
 use Rattle.ds_model.specs.Lawful.{Past, TakenFrom, JudgedFrom}
 use Rattle.ds_model.proofs.Places.{none_some, some_is}
@@ -46,8 +46,10 @@ module _ (s : Scheme) (has_spelling : Message → Bool) (plan : Plan) (start : W
     pub taken : Past done (λ b e. TakenFrom s plan start k lane number messages b e)
 
   -- of a message that a connection passed
-  pub record IsPassed (done : List Event) (k : ℕ) (bytes : List ℕ) (m : Message) : Type 0 where
+  pub record IsPassed (done : List Event) (k : ℕ) (bytes : List ℕ) (p : Passed) : Type 0 where
     pub lane : LaneCert
+    pub m : Message
+    pub says : p ≡ passed_of lane m
     pub read : peer s (host_plan plan (wire plan k).host) bytes ≡ Some lane
     pub number : ℕ
     pub messages : List Message
@@ -56,7 +58,7 @@ module _ (s : Scheme) (has_spelling : Message → Bool) (plan : Plan) (start : W
 
   pub record KeptConn (done : List Event) (k : ℕ) (bytes : List ℕ) (y : Conn) : Type 0 where
     pub hand : (m : Message) → Contains y.hand m → InHand done k bytes m
-    pub passed : (m : Message) → y.passed ≡ Some m → IsPassed done k bytes m
+    pub passed : (p : Passed) → y.passed ≡ Some p → IsPassed done k bytes p
 
   -- as bytes follow
 
@@ -69,7 +71,7 @@ module _ (s : Scheme) (has_spelling : Message → Bool) (plan : Plan) (start : W
       more : KeptConn done k (bytes ++ g.0) y
       more = record {
         hand = λ m c. let o : InHand done k bytes m = kept.hand m c in record { lane = o.lane; read = still o.lane o.read; number = o.number; messages = o.messages; among = o.among; taken = o.taken };
-        passed = λ m e. let o : IsPassed done k bytes m = kept.passed m e in record { lane = o.lane; read = still o.lane o.read; number = o.number; messages = o.messages; among = o.among; judged = o.judged };
+        passed = λ p e. let o : IsPassed done k bytes p = kept.passed p e in record { lane = o.lane; m = o.m; says = o.says; read = still o.lane o.read; number = o.number; messages = o.messages; among = o.among; judged = o.judged };
       }
 
   -- as events follow
@@ -78,8 +80,8 @@ module _ (s : Scheme) (has_spelling : Message → Bool) (plan : Plan) (start : W
     hand_later : (m : Message) → InHand done k bytes m → InHand (done ++ ev ∷ []) k bytes m
     hand_later m o = record { lane = o.lane; read = o.read; number = o.number; messages = o.messages; among = o.among; taken = past_more done ev (λ b e. TakenFrom s plan start k o.lane o.number o.messages b e) o.taken }
 
-    passed_later : (m : Message) → IsPassed done k bytes m → IsPassed (done ++ ev ∷ []) k bytes m
-    passed_later m o = record { lane = o.lane; read = o.read; number = o.number; messages = o.messages; among = o.among; judged = past_more done ev (λ b e. JudgedFrom s plan start k o.lane m b e × Past b (λ b' e'. TakenFrom s plan start k o.lane o.number o.messages b' e')) o.judged }
+    passed_later : (p : Passed) → IsPassed done k bytes p → IsPassed (done ++ ev ∷ []) k bytes p
+    passed_later p o = record { lane = o.lane; m = o.m; says = o.says; read = o.read; number = o.number; messages = o.messages; among = o.among; judged = past_more done ev (λ b e. JudgedFrom s plan start k o.lane o.m b e × Past b (λ b' e'. TakenFrom s plan start k o.lane o.number o.messages b' e')) o.judged }
 
     -- where hand and passed message are as before
     pub conn_later : (y z : Conn) → z.hand ≡ y.hand → z.passed ≡ y.passed → KeptConn done k bytes y → KeptConn (done ++ ev ∷ []) k bytes z
@@ -170,7 +172,7 @@ module _ (s : Scheme) (has_spelling : Message → Bool) (plan : Plan) (start : W
     rest_in m rest e n c = subst (λ ms. Contains ms n) (sym e) (in_tail m rest n c)
 
     judge_next : (cert : LaneCert) (m : Message) (rest : List Message) (o : Option Rule) → delivers ≡ JudgeOne cert m rest → JudgeFacts s (host_plan plan (wire plan k).host) y (arrived (run s plan start done) (wire plan k).source y) cert m rest →
-        judge_delivery s (host_plan plan (wire plan k).host) x.desk cert m ≡ o → resolve plan (run s plan start done) ev ≡ Deliver k → Next (told_delivery m rest o y)
+        judge_delivery s (host_plan plan (wire plan k).host) x.desk cert m ≡ o → resolve plan (run s plan start done) ev ≡ Deliver k → Next (told_delivery cert m rest o y)
     judge_next cert m rest (Some rule) a f j now = record {
       link = refl;
       count = refl;
@@ -184,7 +186,7 @@ module _ (s : Scheme) (has_spelling : Message → Bool) (plan : Plan) (start : W
       count = refl;
       kept = record {
         hand = λ n c. hand_later done ev k (arrived (run s plan start done) (wire plan k).source y) n (kept.hand n (rest_in m rest f.first n c));
-        passed = λ n e. subst (λ z. IsPassed (done ++ ev ∷ []) k (arrived (run s plan start done) (wire plan k).source y) z) (some_is m n e) passed;
+        passed = λ n e. subst (λ z. IsPassed (done ++ ev ∷ []) k (arrived (run s plan start done) (wire plan k).source y) z) (some_is (passed_of cert m) n e) passed;
       };
     }
       where
@@ -199,7 +201,7 @@ module _ (s : Scheme) (has_spelling : Message → Bool) (plan : Plan) (start : W
           host = x;
           conn = y;
           others = rest;
-          told = told_delivery m rest None y;
+          told = told_delivery cert m rest None y;
           event = now;
           stands = there;
           here = here;
@@ -209,14 +211,16 @@ module _ (s : Scheme) (has_spelling : Message → Bool) (plan : Plan) (start : W
           mailbox = target_none (box_of (host_plan plan (wire plan k).host) m.slot) (mailbox_rule by_name (label_of (host_plan plan (wire plan k).host) (box_of (host_plan plan (wire plan k).host) m.slot)) m.label) rules.1;
           becomes = ap (λ (w : World). slice_get w.conns k) (means_after s plan (run s plan start done) ev (Deliver k) now)
               ∙ (deliver_after s plan (run s plan start done) k x y there here (JudgeOne cert m rest) a
-              ∙ ap (λ o. Some (told_delivery m rest o y)) j);
+              ∙ ap (λ o. Some (told_delivery cert m rest o y)) j);
           left = refl;
           passed = refl;
         }
 
-        passed : IsPassed (done ++ ev ∷ []) k (arrived (run s plan start done) (wire plan k).source y) m
+        passed : IsPassed (done ++ ev ∷ []) k (arrived (run s plan start done) (wire plan k).source y) (passed_of cert m)
         passed = record {
           lane = cert;
+          m = m;
+          says = refl;
           read = f.read;
           number = old.number;
           messages = old.messages;

@@ -147,10 +147,10 @@ module _ (s : Scheme) (plan : Plan) (start : World) (before : List Event) (ev : 
     by_deliver y here (Hand b' m next) is f e = record {
       conn = k;
       lane = f.cert;
-      message = f.message;
+      passed = f.left;
       to = refl;
       says = sym t.same ∙ f.mail_is;
-      puts = subst (λ n. PutsFrom s plan start k n f.cert f.message before ev) t.place (record {
+      puts = subst (λ n. PutsFrom s plan start k n f.cert f.left before ev) t.place (record {
         host = x;
         conn = y;
         box = t.box;

@@ -1,7 +1,7 @@
 -- The five checks of a message, in one place: at a send to another host, at framing, on arrival, at a mailbox, and at a take.
 -- At each check either a rule fails, and the first one in the check's order stands in a note or an entry, or the message
 -- goes on to the next hand, lane, frame or mailbox. A message that isn't judged yet waits where it is.
-use Rattle.std.specs.Prelude.{◌≡◌, ℕ, true, false, List, [], ◌∷◌, ◌++◌, Option, Some, None, length, nat_lt, slice_get, Contains}
+use Rattle.std.specs.Prelude.{◌≡◌, ◌≢◌, ◌⊎◌, min, ℕ, true, false, List, [], ◌∷◌, ◌++◌, Option, Some, None, length, nat_lt, slice_get, Contains}
 use Rattle.ds_label.specs.declared.category.Category.{Category}
 use Rattle.ds_label.specs.declared.rule.Rule.{Rule}
 use Rattle.ds_label.specs.declared.rule.Rule.TheVariants.{LaneFull, BoxFull, Stale}
@@ -18,10 +18,10 @@ use Rattle.ds_model.specs.Scheme.{Scheme, Framed}
 use Rattle.ds_model.specs.Plan.{Plan, host_plan, wire, box_plan, lane_plan}
 use Rattle.ds_model.specs.Mailbox.{PutIn, FoundFull, oldest, took}
 use Rattle.ds_model.specs.Inlet.{Inlet, is_fresh}
-use Rattle.ds_model.specs.World.{Process, Mail, Mailbox, Waiting, Queue, Worker, LaneLine, QueuedLine, FullLine, DroppedLine, PassLine, DropLine, Conn, Host, World}
+use Rattle.ds_model.specs.World.{Process, Mail, Mailbox, Waiting, Queue, Worker, LaneLine, QueuedLine, FullLine, DroppedLine, PassLine, DropLine, Conn, Host, World, Passed}
 use Rattle.ds_model.specs.Asking.{noted, box_of, judge_box, message_of, send_rule, mail_of, take_rule, lane_of, told_taken}
 use Rattle.ds_model.specs.LaneWork.{frame_rule, with_frame}
-use Rattle.ds_model.specs.Connecting.{peer, inlet_of, fresh_frame, stale_frame, target_rule}
+use Rattle.ds_model.specs.Connecting.{peer, inlet_of, fresh_frame, stale_frame, target_rule, passed_of}
 use Rattle.ds_model.specs.Step.{Step, Frame, Accept, Deliver, judged, attached, arrived, step}
 
 -- one thing where a rule fails, by the rule; another where none fails
@@ -79,10 +79,10 @@ module _ (s : Scheme) (plan : Plan) (w : World) where
     pub worker : thing (step s plan w (Frame h l)) h (λ u. u.workers) l ≡ Some (with_frame s (lane_plan (host_plan plan h) l) e framed)
     pub log_after : thing (step s plan w (Frame h l)) h (λ u. u.logs) l ≡ Some (log ++ lines)
     -- each is dropped, with its rule in a line, or framed
-    pub each : (v : Waiting) → Contains e.hand v → By (frame_rule s x.desk v) (λ rule. Contains lines (DroppedLine rule v)) (Contains framed v)
+    pub each : (v : Waiting) → Contains e.hand v → By (frame_rule s x.desk v) (λ rule. Contains lines (DroppedLine rule v.sender v.message.slot)) (Contains framed v)
     -- no other is framed, and no other line speaks of a drop
     pub only : (v : Waiting) → Contains framed v → Contains e.hand v × (frame_rule s x.desk v ≡ None)
-    pub no_more : (v : Waiting) (rule : Rule) → Contains lines (DroppedLine rule v) → Contains e.hand v × (frame_rule s x.desk v ≡ Some rule)
+    pub no_more : (rule : Rule) (sender slot : ℕ) → Contains lines (DroppedLine rule sender slot) → (v : Waiting) × Contains e.hand v × (frame_rule s x.desk v ≡ Some rule) × (v.sender ≡ sender) × (v.message.slot ≡ slot)
 
   -- FRAME
   pub record FrameChecked : Type 0 where
@@ -91,9 +91,15 @@ module _ (s : Scheme) (plan : Plan) (w : World) where
         slice_get w.hosts h ≡ Some x → slice_get x.workers l ≡ Some e → e.hand ≡ m ∷ others → slice_get x.logs l ≡ Some log → IsFramed h l x e log
     -- a lane whose key has no leaf left waits
     pub waits : (h l : ℕ) (x : Host) (e : Worker) → slice_get w.hosts h ≡ Some x → slice_get x.workers l ≡ Some e → e.hand ≡ [] → s.has_leaf (lane_plan (host_plan plan h) l).signing e.leaf ≡ false → step s plan w (Frame h l) ≡ w
+    -- a lane with a leaf left lifts the first messages that wait, sixteen or all of them, and the others wait on: none is lost
+    pub lifts : (h l : ℕ) (x : Host) (e : Worker) (q : Queue) → slice_get w.hosts h ≡ Some x → slice_get x.workers l ≡ Some e → slice_get x.queues l ≡ Some q → e.hand ≡ [] → s.has_leaf (lane_plan (host_plan plan h) l).signing e.leaf ≡ true →
+        (first : Queue) × (rest : Queue) × (q ≡ first ++ rest) × (length first ≡ min 16 (length q))
+        × (thing (step s plan w (Frame h l)) h (λ u. u.workers) l ≡ Some (record e { hand = first })) × (thing (step s plan w (Frame h l)) h (λ u. u.queues) l ≡ Some rest)
 
   -- ARRIVAL
   pub record ArrivalChecked : Type 0 where
+    -- while a message is in hand, or passed, no other item is taken
+    pub waits : (k : ℕ) (x : Host) (y : Conn) (lane : LaneCert) → IsOpen k x y lane → (y.hand ≢ []) ⊎ (y.passed ≢ None) → step s plan w (Accept k) ≡ w
     -- the frame's number: a stale frame is dropped with all its messages, and a line says so; a fresh one's messages are in
     -- hand, and its number is the inlet's last
     pub takes : (k i number : ℕ) (x : Host) (y : Conn) (lane : LaneCert) (messages : List Message) (last : Inlet) →
@@ -108,7 +114,7 @@ module _ (s : Scheme) (plan : Plan) (w : World) where
         IsOpen k x y lane → y.hand ≡ m ∷ others → y.passed ≡ None →
         By (first_rule (receiver_rule s x.desk.store x.desk.rows x.desk.moment (host_plan plan (wire plan k).host).key lane m ∷ target_rule (judge_box (host_plan plan (wire plan k).host) m.slot m.label) ∷ []))
         (λ rule. slice_get (step s plan w (Deliver k)).conns k ≡ Some (record y { hand = others; lines = y.lines ++ DropLine rule m.slot ∷ [] }))
-        (slice_get (step s plan w (Deliver k)).conns k ≡ Some (record y { hand = others; passed = Some m; lines = y.lines ++ PassLine m.slot ∷ [] }))
+        (slice_get (step s plan w (Deliver k)).conns k ≡ Some (record y { hand = others; passed = Some (passed_of lane m); lines = y.lines ++ PassLine m.slot ∷ [] }))
 
   -- BOX
   pub record BoxChecked : Type 0 where
@@ -121,9 +127,9 @@ module _ (s : Scheme) (plan : Plan) (w : World) where
         ((b : ℕ) × (box_of (host_plan plan h) m.slot ≡ Some b) × (thing (step s plan w (Step h p)) h (λ u. u.procs) p ≡ Some (noted notes.Sent y)) × FindsRoom h b x (step s plan w (Step h p)) (mail_of (host_plan plan h).key m))
     -- a message that a connection passed goes into the mailbox for which it was judged, where it finds room; the connection
     -- doesn't learn whether
-    pub puts : (k b : ℕ) (x : Host) (y : Conn) (lane : LaneCert) (m : Message) →
-        IsOpen k x y lane → y.passed ≡ Some m → box_of (host_plan plan (wire plan k).host) m.slot ≡ Some b →
-        (slice_get (step s plan w (Deliver k)).conns k ≡ Some (record y { passed = None })) × FindsRoom (wire plan k).host b x (step s plan w (Deliver k)) (mail_of lane.exporter m)
+    pub puts : (k b : ℕ) (x : Host) (y : Conn) (lane : LaneCert) (p : Passed) →
+        IsOpen k x y lane → y.passed ≡ Some p → box_of (host_plan plan (wire plan k).host) p.slot ≡ Some b →
+        (slice_get (step s plan w (Deliver k)).conns k ≡ Some (record y { passed = None })) × FindsRoom (wire plan k).host b x (step s plan w (Deliver k)) p.mail
 
   -- TAKE: that the mailbox is the process's own, and that its label flows to the process's: a note of refusal, or the oldest
   -- message is taken; from an empty mailbox none, and the process waits

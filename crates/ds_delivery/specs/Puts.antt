@@ -6,7 +6,7 @@ use Rattle.ds_msg.specs.declared.message.Message.{Message}
 use Rattle.ds_model.specs.Scheme.{Scheme}
 use Rattle.ds_model.specs.Plan.{Plan, wire}
 use Rattle.ds_model.specs.Mailbox.{PutIn}
-use Rattle.ds_model.specs.World.{Mail, World}
+use Rattle.ds_model.specs.World.{Mail, World, Passed}
 use Rattle.ds_model.specs.Asking.{mail_of}
 use Rattle.ds_model.specs.Step.{Event, run}
 use Rattle.ds_model.specs.Touch.{InBox, touch}
@@ -16,10 +16,10 @@ use Rattle.ds_model.specs.Lawful.{PutsHere, PutsFrom}
 pub record IsFrom (s : Scheme) (plan : Plan) (start : World) (h b : ℕ) (mail : Mail Category) (before : List Event) (e : Event) : Type 0 where
   pub conn : ℕ
   pub lane : LaneCert
-  pub message : Message
+  pub passed : Passed
   pub to : (wire plan conn).host ≡ h
-  pub says : mail ≡ mail_of lane.exporter message
-  pub puts : PutsFrom s plan start conn b lane message before e
+  pub says : mail ≡ passed.mail
+  pub puts : PutsFrom s plan start conn b lane passed before e
 
 -- whatever message an event of a run puts into a mailbox, a process of the host puts it there, or a connection does
 abbrev pub EachIsPut : Type 0

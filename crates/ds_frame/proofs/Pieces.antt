@@ -6,21 +6,11 @@ use Rattle.ds_cert.specs.declared.lane.LaneCert.{LaneCert}
 use Rattle.ds_frame.specs.declared.item.Failure.{Failure}
 use Rattle.ds_frame.specs.declared.item.Item.{Item}
 use Rattle.ds_frame.specs.Fields.{Stop, Open, Broken}
-use Rattle.ds_frame.specs.Reader.{Reader, Reading, fed, lane_after, answer_of, next_by}
+use Rattle.ds_frame.specs.Reader.{Reader, Reading, new_reader, fed, lane_after, answer_of, next_by}
 use Rattle.ds_frame.specs.Streams.{Stream, with_item, joined, read_on, stream_by}
 use Rattle.ds_frame.specs.Laws.{Call, Feed, Next, Session, new_session, handed_by, called, after, fed_by, Continues, IsReadByPieces}
+use Rattle.ds_frame.specs.SoFar.{with_front, ahead, IsSoFar}
 use Rattle.ds_frame.proofs.Steady.{IsSteady}
-
-abbrev with_front : List Item → Stream → Stream
-with_front front s = record s { items = front ++ s.items }
-
--- what a reader is still to hand out of the bytes that it has
-abbrev ahead_unless : Option Failure → Reading → Reader → Stream
-ahead_unless None reading r = read_on reading (suc (length r.rest)) r.lane r.passed r.rest
-ahead_unless (Some failure) reading r = record { items = []; ending = Some failure }
-
-abbrev ahead : Reading → Reader → Stream
-ahead reading r = ahead_unless r.failure reading r
 
 module _ (reading : Reading) (steady : (lane : Option LaneCert) → IsSteady 1 (reading lane)) where
   -- more steps than bytes make no difference
@@ -52,13 +42,13 @@ module _ (reading : Reading) (steady : (lane : Option LaneCert) → IsSteady 1 (
   step_err lane passed bytes (Broken cause offset) e = ap (joined passed (λ item rest. read_on reading (length bytes) (lane_after item lane) (passed + (length bytes - length rest)) rest)) e
 
   -- whatever comes next, the stream is what was handed out and what the reader is still to hand out
-  abbrev IsSoFar : List ℕ → Session → Type 0
-  IsSoFar stream s = (more : List ℕ) → stream_by reading (stream ++ more) ≡ with_front s.handed (ahead reading (fed more s.reader))
+  abbrev IsAt : List ℕ → Session → Type 0
+  IsAt stream s = IsSoFar reading stream s.handed s.reader
 
-  at_start : IsSoFar [] new_session
+  at_start : IsAt [] new_session
   at_start more = refl
 
-  after_feed : (stream piece : List ℕ) (s : Session) → IsSoFar stream s → IsSoFar (stream ++ piece) (called reading (Feed piece) s)
+  after_feed : (stream piece : List ℕ) (s : Session) → IsAt stream s → IsAt (stream ++ piece) (called reading (Feed piece) s)
   after_feed stream piece s so_far more =
       ap (stream_by reading) (append_assoc stream piece more) ∙ so_far (piece ++ more)
       ∙ ap (λ (rest : List ℕ). with_front s.handed (ahead reading (record s.reader { rest = rest }))) (sym (append_assoc s.reader.rest piece more))
@@ -93,12 +83,28 @@ module _ (reading : Reading) (steady : (lane : Option LaneCert) → IsSteady 1 (
   moved : (r : Reader) (handed : List Item) (more : List ℕ) → with_front handed (ahead reading (fed more r)) ≡ with_front (handed ++ handed_by (next_by reading r).answer) (ahead reading (fed more (next_by reading r).reader))
   moved r handed more = moved_for r.rest r.passed r.lane r.failure handed more
 
-  after_next : (stream : List ℕ) (s : Session) → IsSoFar stream s → IsSoFar stream (called reading Next s)
+  after_next : (stream : List ℕ) (s : Session) → IsAt stream s → IsAt stream (called reading Next s)
   after_next stream s so_far more = so_far more ∙ moved s.reader s.handed more
 
-  after_all : (calls : List Call) (stream : List ℕ) (s : Session) → IsSoFar stream s → IsSoFar (stream ++ fed_by calls) (after reading calls s)
-  after_all [] stream s so_far = subst (λ (bytes : List ℕ). IsSoFar bytes s) (sym (append-nil stream)) so_far
-  after_all (Feed piece ∷ calls) stream s so_far = subst (λ (bytes : List ℕ). IsSoFar bytes (after reading calls (called reading (Feed piece) s))) (append_assoc stream piece (fed_by calls)) (after_all calls (stream ++ piece) (called reading (Feed piece) s) (after_feed stream piece s so_far))
+  nothing_more : (r : Reader) → fed [] r ≡ r
+  nothing_more r = ap (λ (rest : List ℕ). record r { rest = rest }) (append-nil r.rest)
+
+  -- the three, of any reader
+  pub so_far_new : IsSoFar reading [] [] new_reader
+  so_far_new = at_start
+
+  pub so_far_fed : (bytes piece : List ℕ) (handed : List Item) (r : Reader) → IsSoFar reading bytes handed r → IsSoFar reading (bytes ++ piece) handed (fed piece r)
+  so_far_fed bytes piece handed r is = after_feed bytes piece (record { handed = handed; reader = r }) is
+
+  pub so_far_next : (bytes : List ℕ) (handed : List Item) (r : Reader) → IsSoFar reading bytes handed r → IsSoFar reading bytes (handed ++ handed_by (next_by reading r).answer) (next_by reading r).reader
+  so_far_next bytes handed r is more = is more ∙ moved r handed more
+
+  pub so_far_now : (bytes : List ℕ) (handed : List Item) (r : Reader) → IsSoFar reading bytes handed r → stream_by reading bytes ≡ with_front handed (ahead reading r)
+  so_far_now bytes handed r is = ap (stream_by reading) (sym (append-nil bytes)) ∙ is [] ∙ ap (λ (x : Reader). with_front handed (ahead reading x)) (nothing_more r)
+
+  after_all : (calls : List Call) (stream : List ℕ) (s : Session) → IsAt stream s → IsAt (stream ++ fed_by calls) (after reading calls s)
+  after_all [] stream s so_far = subst (λ (bytes : List ℕ). IsAt bytes s) (sym (append-nil stream)) so_far
+  after_all (Feed piece ∷ calls) stream s so_far = subst (λ (bytes : List ℕ). IsAt bytes (after reading calls (called reading (Feed piece) s))) (append_assoc stream piece (fed_by calls)) (after_all calls (stream ++ piece) (called reading (Feed piece) s) (after_feed stream piece s so_far))
   after_all (Next ∷ calls) stream s so_far = after_all calls stream (called reading Next s) (after_next stream s so_far)
 
   continues_by : (stream : Stream) (rest : List ℕ) (passed : ℕ) (lane : Option LaneCert) (handed : List Item) (read : Result (Item × List ℕ) Stop) → reading lane rest ≡ read
@@ -118,9 +124,6 @@ module _ (reading : Reading) (steady : (lane : Option LaneCert) → IsSteady 1 (
       → stream ≡ with_front handed (ahead reading (reader_at rest passed lane failure)) → Continues stream handed (next_by reading (reader_at rest passed lane failure)).answer
   continues_for stream rest passed lane None handed is = continues_by stream rest passed lane handed (reading lane rest) refl is
   continues_for stream rest passed lane (Some failure) handed is = (ap (λ (s : Stream). s.items) is ∙ append-nil handed, ap (λ (s : Stream). s.ending) is)
-
-  nothing_more : (r : Reader) → fed [] r ≡ r
-  nothing_more r = ap (λ (rest : List ℕ). record r { rest = rest }) (append-nil r.rest)
 
   pub read_by_pieces : IsReadByPieces reading
   read_by_pieces calls =

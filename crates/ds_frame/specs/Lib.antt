@@ -8,3 +8,4 @@ pub mod Checks
 pub mod Reader
 pub mod Streams
 pub mod Laws
+pub mod SoFar

@@ -21,7 +21,7 @@ use Rattle.ds_inlet.specs.Reads.{Follows, IsReadAsStream}
 use Rattle.ds_inlet.specs.OfferedFrames.{OfferedFrame}
 
 -- the lane certificate that is known after an item was seen
-abbrev lane_seen : Seen → Option LaneCert → Option LaneCert
+abbrev pub lane_seen : Seen → Option LaneCert → Option LaneCert
 lane_seen (Hello lane) before = Some lane
 lane_seen (Framed number messages) before = before
 

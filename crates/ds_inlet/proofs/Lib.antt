@@ -4,3 +4,4 @@ pub mod Steady
 pub mod Follows
 pub mod ForHost
 pub mod PlainCalls
+pub mod Accepting

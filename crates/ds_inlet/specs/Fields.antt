@@ -2,6 +2,7 @@
 use Rattle.std.specs.Prelude.{◌≤◌, ◌-◌, drop, length, vec_len, vec_capacity}
 use Rattle.std.specs.List.{All}
 use Rattle.ds_msg.specs.Ranges.{MessageRange}
+use Rattle.ds_inlet.specs.Accepting.{IsReadSoFar}
 use Rattle.ds_inlet.specs.declared.conn.Conn.TheInside.{Inside}
 use Rattle.ds_inlet.specs.Connections.{Connection, RoomyConnection, HasInlet, IsSeated, AreOfferedInRange, IsShortPassed, seat_of}
 
@@ -28,3 +29,4 @@ pub record IsKept (s : Inside) : Type 0 where
   pub offered_range : AreOfferedInRange s.offered
   pub hand : All MessageRange s.hand.items
   pub passed : IsShortPassed s.passed
+  pub so_far : IsReadSoFar (connection_of s)

@@ -7,3 +7,4 @@ pub mod Connections
 pub mod Fields
 pub mod Reads
 pub mod PlainConnections
+pub mod Accepting

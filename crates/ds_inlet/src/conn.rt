@@ -6,6 +6,12 @@ ghost use Rattle.std.specs.List.{All};
 ghost use Rattle.ds_msg.specs.Ranges.{MessageRange};
 ghost use Rattle.ds_frame.specs.Reader.{fed};
 ghost use Rattle.ds_inlet.specs.Connections.{AreSeenInRange, Fails, IsAdmitted, IsForHost, IsForLane, IsOffered, IsShortMessage, IsShortPassed, Reads, arrived_more, frame_seen, new_connection, passed_on, refused_by, seat, seat_of, settled, told_seen};
+ghost use Rattle.std.specs.Prelude.{ℕ, List};
+ghost use Rattle.ds_model.specs.Scheme.{Scheme};
+ghost use Rattle.ds_model.specs.Plan.{HostPlan};
+ghost use Rattle.ds_model.specs.Connecting.{accept};
+ghost use Rattle.ds_inlet.specs.PlainConnections.{plain_conn};
+ghost use Rattle.ds_inlet.specs.Accepting.{Accepts, IsReadSoFar, inlet_plan, inlet_scheme};
 ghost use Rattle.ds_inlet.specs.Hosts.{inlet_at};
 ghost use Rattle.ds_inlet.specs.Seen.{seen_of};
 
@@ -143,6 +149,13 @@ impl Conn {
         let _at = self.at;
     }
 
+    /// What every connection keeps: of all that arrived it took the items that its host reads first, and goes on behind them.
+    pub fn is_read_so_far(&self)
+        ensures { IsReadSoFar self.now.conn }
+    {
+        let _at = self.at;
+    }
+
     /// The first message of the hand.
     pub fn front(&self) -> Option<&Message>
         ensures first { MatchOption result (self.now.conn.hand ≡ []) (λ m. slice_get self.now.conn.hand 0 ≡ Some m.now) }
@@ -198,6 +211,21 @@ impl Conn {
         requires hand { self.old.conn.hand ≡ [] }
         requires free { self.old.conn.passed ≡ None }
         ensures exact { Reads self.old.conn result self.new.conn }
+        ensures accepts { (s : Scheme) (plan : HostPlan) (link : List ℕ) → Accepts link self.old.conn.reader.failure result self.new.conn (accept (inlet_scheme s) (inlet_plan plan self.old.conn) (plain_conn link None self.old.conn) self.old.conn.arrived) }
+        ensures offered { IfOk result (λ offer. IsOffered offer self.new.conn.offered) }
+        ensures inlet { IfOk result (λ offer. IsForLane offer (seat_of self.new.conn.inlets self.new.conn.reader.lane)) }
+        ensures room { (self.new.spare ≡ self.old.spare) × (self.new.space ≡ self.old.space) }
+    {
+        self.is_read_so_far();
+        self.is_admitted();
+        self.read_on()
+    }
+
+    /// The same, without a word of the plain world.
+    fn read_on(&mut self) -> Result<Offer, ReadEnd>
+        requires hand { self.old.conn.hand ≡ [] }
+        requires free { self.old.conn.passed ≡ None }
+        ensures exact { Reads self.old.conn result self.new.conn }
         ensures offered { IfOk result (λ offer. IsOffered offer self.new.conn.offered) }
         ensures inlet { IfOk result (λ offer. IsForLane offer (seat_of self.new.conn.inlets self.new.conn.reader.lane)) }
         ensures room { (self.new.spare ≡ self.old.spare) × (self.new.space ≡ self.old.space) }
@@ -232,6 +260,7 @@ impl Conn {
         requires free { self.old.conn.offered ≡ None }
         requires host { IsForHost self.old.conn.inlets self.old.conn.reader.lane (seen_of seen) }
         requires range { AreSeenInRange (seen_of seen) }
+        requires so_far { IsReadSoFar (told_seen self.old.conn (seen_of seen) (drop size self.old.conn.reader.rest)).conn }
         ensures told { told_seen self.old.conn (seen_of seen) (drop size self.old.conn.reader.rest) ≡ record { answer = Ok result; conn = self.new.conn } }
         ensures offered { IsOffered result self.new.conn.offered }
         ensures inlet { IsForLane result (seat_of self.new.conn.inlets self.new.conn.reader.lane) }
@@ -248,6 +277,7 @@ impl Conn {
         requires size { size ≤ length self.old.conn.reader.rest }
         requires free { self.old.conn.offered ≡ None }
         requires inlet { is_some (inlet_at self.old.conn.inlets lane) ≡ true }
+        requires so_far { IsReadSoFar (record self.old.conn { reader = record self.old.conn.reader { rest = drop size self.old.conn.reader.rest; passed = self.old.conn.reader.passed + size; lane = Some lane } }) }
         ensures state { self.new.conn ≡ record self.old.conn { reader = record self.old.conn.reader { rest = drop size self.old.conn.reader.rest; passed = self.old.conn.reader.passed + size; lane = Some lane } } }
         ensures offer { result ≡ Offer.Hello }
         ensures room { (self.new.spare ≡ self.old.spare) × (self.new.space ≡ self.old.space) }
@@ -277,6 +307,7 @@ impl Conn {
         requires size { size ≤ length self.old.conn.reader.rest }
         requires hello { is_some self.old.conn.reader.lane ≡ true }
         requires range { All MessageRange messages.items }
+        requires so_far { IsReadSoFar (record self.old.conn { reader = record self.old.conn.reader { rest = drop size self.old.conn.reader.rest; passed = self.old.conn.reader.passed + size }; offered = Some (frame_seen self.old.conn number messages.items) }) }
         ensures state { self.new.conn ≡ record self.old.conn { reader = record self.old.conn.reader { rest = drop size self.old.conn.reader.rest; passed = self.old.conn.reader.passed + size }; offered = Some (frame_seen self.old.conn number messages.items) } }
         ensures offer { result ≡ Offer.Frame (seat self.old.conn.inlets self.old.conn.reader.lane) number }
         ensures inlet { seat_of self.old.conn.inlets self.old.conn.reader.lane ≡ Some (seat self.old.conn.inlets self.old.conn.reader.lane) }
@@ -294,6 +325,7 @@ impl Conn {
 
     /// Fails at that many bytes behind the front, for ever.
     fn fail(&mut self, cause: Cause, offset: usize) -> ReadEnd
+        requires so_far { IsReadSoFar (record self.old.conn { reader = record self.old.conn.reader { failure = Some (record { cause = cause; place = self.old.conn.reader.passed + offset }) } }) }
         ensures end { Fails self.old.conn cause offset result self.new.conn }
         ensures room { (self.new.spare ≡ self.old.spare) × (self.new.space ≡ self.old.space) }
     {

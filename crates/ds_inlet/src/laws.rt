@@ -7,6 +7,7 @@ ghost use Rattle.ds_model.specs.Scheme.{InletName};
 ghost use Rattle.ds_inlet.specs.Hosts.{host_reading};
 ghost use Rattle.ds_inlet.specs.PlainConnections.{IsPlainArrival, IsPlainDrop, IsPlainFresh, IsPlainHand, IsPlainPass, IsPlainReturn, IsPlainStale};
 ghost use Rattle.ds_inlet.specs.Reads.{IsReadAsStream};
+ghost use Rattle.ds_inlet.specs.Accepting.{StaysReadSoFar, IsPlainAccept};
 
 /// In whatever pieces a stream comes to a host, and whenever its next item is asked for, the items handed out are those that
 /// the host reads of the whole stream, in their order, and the reader waits and fails as the whole stream does.
@@ -30,4 +31,11 @@ pub fn connections_act_as_the_plain_world()
     ensures drops { IsPlainDrop }
     ensures put { IsPlainHand }
     ensures given_back { IsPlainReturn }
+{}
+
+/// A connection has read what arrived as far as it took items of it, from its beginning on and through every call; so a call of
+/// `read` is the plain world's accept: it takes the hello, asks the inlet of a frame's number, fails, or waits.
+pub fn connections_accept_as_the_plain_world()
+    ensures stays { StaysReadSoFar }
+    ensures accepts { IsPlainAccept }
 {}

@@ -3,3 +3,4 @@ pub mod Tables
 pub mod Sets
 pub mod Bridge
 pub mod Numbers
+pub mod Growing

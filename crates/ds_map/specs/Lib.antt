@@ -1,3 +1,4 @@
 pub mod Table
 pub mod Labels
 pub mod Alike
+pub mod Growing

@@ -1,5 +1,6 @@
 //! Numbers and names are one thing in two spellings.
 
+ghost use Rattle.ds_map.specs.Growing.{GrowsSo};
 ghost use Rattle.ds_map.specs.Alike.{UnderEachTable, IsOneToOne, LabelsAreOneToOne, SameAnswers, SameRules};
 
 /// Under each table a known category and its number say each other, and the number's parity says the kind.
@@ -18,4 +19,9 @@ pub fn labels_are_one_to_one()
 pub fn answers_are_the_same()
     ensures labels { UnderEachTable SameAnswers }
     ensures rules { UnderEachTable SameRules }
+{}
+
+/// A table grows at its end alone: what had a name keeps it, what had a number keeps it, and labels keep their names.
+pub fn names_stay()
+    ensures { GrowsSo }
 {}

@@ -8,7 +8,7 @@ mod number;
 mod table;
 
 pub use fault::MapFault;
-pub use laws::{answers_are_the_same, labels_are_one_to_one, numbers_are_one_to_one};
+pub use laws::{answers_are_the_same, labels_are_one_to_one, names_stay, numbers_are_one_to_one};
 pub use number::{ROW_LIMIT, home_number};
 pub use table::MapTable;
 

@@ -72,7 +72,7 @@ abbrev pub conn_told : ConnAsk → Answer → Conn → Conn
 conn_told (Become next) answer k = next
 conn_told (Hand b m next) answer k = next
 conn_told (Number i n fresh stale) (IsFresh b) k = if b then fresh else stale
-conn_told (JudgeOne lane m rest) (Ruled rule) k = told_delivery m rest rule k
+conn_told (JudgeOne lane m rest) (Ruled rule) k = told_delivery lane m rest rule k
 conn_told _ _ k = k
 
 -- each actor becomes what it is told

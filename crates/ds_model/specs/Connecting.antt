@@ -11,7 +11,7 @@ use Rattle.ds_model.specs.Plan.{HostPlan}
 use Rattle.ds_model.specs.Desk.{Desk}
 use Rattle.ds_model.specs.ExporterRules.{receiver_rule}
 use Rattle.ds_model.specs.Asking.{Target, Not, Into, judge_box, box_of, mail_of}
-use Rattle.ds_model.specs.World.{Mail, Conn, FrameLine, StaleLine, PassLine, DropLine}
+use Rattle.ds_model.specs.World.{Mail, Conn, FrameLine, StaleLine, PassLine, DropLine, Passed}
 
 -- Nothing; a step of its own; an inlet's answer to a frame's number, with what it becomes where the frame is fresh and
 -- where it is stale; that the desk judges a message; or a judged message into a mailbox, with what it becomes.
@@ -72,7 +72,7 @@ accept_item s plan k arrived (Some (Hello lane)) = Become (record k { taken = su
 accept_item s plan k arrived (Some (Framed number messages)) = frame_from plan k number messages (peer s plan arrived)
 
 -- only with an empty hand, nothing passed and no failure
-abbrev pub accept_free : Scheme → HostPlan → Conn → List ℕ → List Message → Option Message → Option Failure → ConnAsk
+abbrev pub accept_free : Scheme → HostPlan → Conn → List ℕ → List Message → Option Passed → Option Failure → ConnAsk
 accept_free s plan k arrived [] None None = accept_item s plan k arrived (slice_get (s.items plan.key plan.inlets arrived) k.taken)
 accept_free s plan k arrived _ _ _ = Quiet
 
@@ -88,8 +88,8 @@ put_passed k m None = Quiet
 put_passed k m (Some b) = Hand b m (record k { passed = None })
 
 -- a passed message is put; with none, the first message of the hand is judged
-abbrev pub deliver_to : HostPlan → Conn → LaneCert → List Message → Option Message → ConnAsk
-deliver_to plan k lane hand (Some m) = put_passed k (mail_of lane.exporter m) (box_of plan m.slot)
+abbrev pub deliver_to : HostPlan → Conn → LaneCert → List Message → Option Passed → ConnAsk
+deliver_to plan k lane hand (Some p) = put_passed k p.mail (box_of plan p.slot)
 deliver_to plan k lane [] None = Quiet
 deliver_to plan k lane (m ∷ rest) None = JudgeOne lane m rest
 
@@ -114,7 +114,11 @@ judge_delivery s plan d lane m = first_rule (
     ∷ target_rule (judge_box plan m.slot m.label)
     ∷ [])
 
+-- what is left of a message that passes: the mailbox's slot, and what goes into the mailbox
+abbrev pub passed_of : LaneCert → Message → Passed
+passed_of lane m = record { slot = m.slot; mail = mail_of lane.exporter m }
+
 -- a message that passes waits to be put, another one is dropped
-abbrev pub told_delivery : Message → List Message → Option Rule → Conn → Conn
-told_delivery m rest None k = record k { hand = rest; passed = Some m; lines = k.lines ++ PassLine m.slot ∷ [] }
-told_delivery m rest (Some rule) k = record k { hand = rest; lines = k.lines ++ DropLine rule m.slot ∷ [] }
+abbrev pub told_delivery : LaneCert → Message → List Message → Option Rule → Conn → Conn
+told_delivery lane m rest None k = record k { hand = rest; passed = Some (passed_of lane m); lines = k.lines ++ PassLine m.slot ∷ [] }
+told_delivery lane m rest (Some rule) k = record k { hand = rest; lines = k.lines ++ DropLine rule m.slot ∷ [] }

@@ -60,7 +60,7 @@ admitted_line (Lifted count) = []
 -- a line for a message that is dropped, with its rule
 abbrev pub dropped_line : Waiting → Option Rule → List LaneLine
 dropped_line w None = []
-dropped_line w (Some rule) = DroppedLine rule w ∷ []
+dropped_line w (Some rule) = DroppedLine rule w.sender w.message.slot ∷ []
 
 -- a line for a frame, with its number and how many messages it has
 abbrev pub framed_line : ℕ → List Waiting → List LaneLine

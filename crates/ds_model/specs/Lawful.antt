@@ -14,9 +14,9 @@ use Rattle.ds_model.specs.Scheme.{Scheme, Framed}
 use Rattle.ds_model.specs.Plan.{Plan, Link, OfLane, IsLane, host_plan, wire, box_plan, lane_plan}
 use Rattle.ds_model.specs.Mailbox.{PutIn, put_entry}
 use Rattle.ds_model.specs.Inlet.{Inlet}
-use Rattle.ds_model.specs.World.{Process, Mail, Mailbox, Queue, Waiting, Worker, Conn, Host, World}
+use Rattle.ds_model.specs.World.{Process, Mail, Mailbox, Queue, Waiting, Worker, Passed, Conn, Host, World}
 use Rattle.ds_model.specs.Asking.{Put, ask, message_of, mail_of, box_of, label_of, lane_of}
-use Rattle.ds_model.specs.Connecting.{Hand, peer, inlet_of, deliver}
+use Rattle.ds_model.specs.Connecting.{Hand, peer, inlet_of, passed_of, deliver}
 use Rattle.ds_model.specs.Step.{Event, Step, Frame, Accept, Deliver, attached, arrived, resolve, step, run}
 
 -- some event of a list, with those before it
@@ -72,8 +72,8 @@ module _ (s : Scheme) (plan : Plan) (start : World) where
 
   -- MESSAGES FROM OTHER HOSTS, BACKWARDS
 
-  -- the event delivers this message, which connection k of this lane certificate had passed, into a mailbox, where there is room
-  pub record PutsFrom (k b : ℕ) (lane : LaneCert) (m : Message) (before : List Event) (e : Event) : Type 0 where
+  -- the event delivers what connection k of this lane certificate had passed into a mailbox, where there is room
+  pub record PutsFrom (k b : ℕ) (lane : LaneCert) (p : Passed) (before : List Event) (e : Event) : Type 0 where
     pub host : Host
     pub conn : Conn
     pub box : Mailbox
@@ -82,10 +82,10 @@ module _ (s : Scheme) (plan : Plan) (start : World) where
     pub stands : slice_get (after before).hosts (wire plan k).host ≡ Some host
     pub here : slice_get (after before).conns k ≡ Some conn
     pub hello : peer s (host_plan plan (wire plan k).host) (arrived (after before) (wire plan k).source conn) ≡ Some lane
-    pub passed : conn.passed ≡ Some m
+    pub passed : conn.passed ≡ Some p
     pub there : slice_get host.boxes b ≡ Some box
-    pub asks : deliver s (host_plan plan (wire plan k).host) conn (arrived (after before) (wire plan k).source conn) ≡ Hand b (mail_of lane.exporter m) next
-    pub room : put_entry (box_plan (host_plan plan (wire plan k).host) b).room (mail_of lane.exporter m) box.waiting ≡ PutIn (mail_of lane.exporter m)
+    pub asks : deliver s (host_plan plan (wire plan k).host) conn (arrived (after before) (wire plan k).source conn) ≡ Hand b p.mail next
+    pub room : put_entry (box_plan (host_plan plan (wire plan k).host) b).room p.mail box.waiting ≡ PutIn p.mail
 
   -- the event judges it, the first of the connection's hand, by the rules of arrival and of the mailbox, at the host's own
   -- desk; none fails, and it is passed
@@ -103,7 +103,7 @@ module _ (s : Scheme) (plan : Plan) (start : World) where
     pub mailbox : mailbox_rule by_name (label_of (host_plan plan (wire plan k).host) (box_of (host_plan plan (wire plan k).host) m.slot)) m.label ≡ None
     pub becomes : slice_get (next before e).conns k ≡ Some told
     pub left : told.hand ≡ others
-    pub passed : told.passed ≡ Some m
+    pub passed : told.passed ≡ Some (passed_of lane m)
 
   -- the event takes the frame with these messages: it is the next item, after a hello with the lane's certificate, it is
   -- signed by the lane's key, and its number is above the inlet's last; its messages are in hand
@@ -195,8 +195,10 @@ module _ (s : Scheme) (plan : Plan) (start : World) where
   abbrev pub WroteFrame : (host lane number : ℕ) → List Message → List Event → Type 0
   WroteFrame h l number messages events = Past events (λ b e. FramedOn h l number messages b e)
 
-  -- what holds where a connection's message is put
-  pub record RulesFrom (k b : ℕ) (lane : LaneCert) (m : Message) (before : List Event) : Type 0 where
+  -- what holds where what a connection passed is put: it is what is left of this message
+  pub record RulesFrom (k b : ℕ) (lane : LaneCert) (p : Passed) (before : List Event) : Type 0 where
+    pub m : Message
+    pub says : p ≡ passed_of lane m
     pub number : ℕ
     pub messages : List Message
     pub good : s.good_lane lane ≡ true
@@ -216,7 +218,7 @@ module _ (s : Scheme) (plan : Plan) (start : World) where
 
   -- of messages from other hosts
   abbrev pub LawfulFrom : List Event → Type 0
-  LawfulFrom events = (before : List Event) (e : Event) (later : List Event) → events ≡ before ++ e ∷ later → (k b : ℕ) (lane : LaneCert) (m : Message) → PutsFrom k b lane m before e → RulesFrom k b lane m before
+  LawfulFrom events = (before : List Event) (e : Event) (later : List Event) → events ≡ before ++ e ∷ later → (k b : ℕ) (lane : LaneCert) (p : Passed) → PutsFrom k b lane p before e → RulesFrom k b lane p before
 
   -- of all messages
   pub record Lawful (events : List Event) : Type 0 where

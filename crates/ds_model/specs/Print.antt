@@ -183,7 +183,7 @@ module _ (p : Printing) (plan : Plan) where
   lane_words (QueuedLine w) = codes "queued" ∷ to_slot w ∷ shown w.message.payload ∷ []
   lane_words (FullLine w) = codes "full" ∷ to_slot w ∷ shown w.message.payload ∷ []
   lane_words (FramedLine number count) = codes "framed" ∷ decimal number ∷ decimal count ∷ []
-  lane_words (DroppedLine rule w) = codes "dropped" ∷ (rule_text rule ++ to_slot w ∷ [])
+  lane_words (DroppedLine rule sender slot) = codes "dropped" ∷ (rule_text rule ++ dotted (decimal sender ∷ decimal slot ∷ []) ∷ [])
 
   -- a lane's name: its host's, and its number
   abbrev pub lane_name : (h l : ℕ) → List ℕ

@@ -109,7 +109,7 @@ abbrev pub perform_conn : Scheme → HostPlan → Host → Conn → ConnAsk → 
 perform_conn s plan x k Quiet = record { host = x; conn = k }
 perform_conn s plan x k (Become next) = record { host = x; conn = next }
 perform_conn s plan x k (Number i number fresh stale) = record { host = record x { inlets = at i (numbered number) x.inlets }; conn = if fresh_in number (slice_get x.inlets i) then fresh else stale }
-perform_conn s plan x k (JudgeOne lane m rest) = record { host = x; conn = told_delivery m rest (judge_delivery s plan x.desk lane m) k }
+perform_conn s plan x k (JudgeOne lane m rest) = record { host = x; conn = told_delivery lane m rest (judge_delivery s plan x.desk lane m) k }
 perform_conn s plan x k (Hand b m next) = record { host = record x { boxes = at b (put (box_plan plan b).room m) x.boxes }; conn = next }
 
 -- the stream that a connection reads: a link's own, or the lane's

@@ -56,7 +56,7 @@ pub data LaneLine : Type 0 where
   QueuedLine : Waiting → LaneLine
   FullLine : Waiting → LaneLine
   FramedLine : (number count : ℕ) → LaneLine
-  DroppedLine : Rule → Waiting → LaneLine
+  DroppedLine : Rule → (sender slot : ℕ) → LaneLine
 
 -- what is printed of a connection
 pub data ConnLine : Type 0 where
@@ -65,6 +65,11 @@ pub data ConnLine : Type 0 where
   PassLine : (slot : ℕ) → ConnLine
   DropLine : Rule → (slot : ℕ) → ConnLine
 
+-- a message that a connection judged: the mailbox's slot, and what goes into the mailbox
+pub record Passed : Type 0 where
+  pub slot : ℕ
+  pub mail : Mail Category
+
 -- a connection: the stream of a link, how many bytes arrived and how many items were taken, the messages of the last
 -- frame that aren't judged yet, the one that was judged and isn't put yet, and its failure
 pub record Conn : Type 0 where
@@ -72,7 +77,7 @@ pub record Conn : Type 0 where
   pub count : ℕ
   pub taken : ℕ
   pub hand : List Message
-  pub passed : Option Message
+  pub passed : Option Passed
   pub failed : Option Failure
   pub lines : List ConnLine
 

@@ -1,5 +1,5 @@
 -- One event of a connection, with its host.
-use Rattle.std.proofs.Common.{◌≡◌, ℕ, Bool, true, List, [], ◌∷◌, ◌&&◌, Option, Some, None, slice_get, option_map, refl, ap, ◌⊎◌, inl, inr, eqb, eqb-true}
+use Rattle.std.proofs.Common.{◌≡◌, ◌<◌, ℕ, zero, suc, Bool, true, List, [], ◌∷◌, ◌&&◌, Option, Some, None, slice_get, option_map, refl, sym, ◌∙◌, ap, arith, ◌⊎◌, inl, inr, eqb, eqb-true}
 use Rattle.std.specs.Prelude.{if◌then◌else◌}
 use Rattle.std.proofs.lemmas.List.Quantifiers.{position-Some}
 use Rattle.ds_label.specs.declared.category.Category.{Category}
@@ -13,9 +13,9 @@ use Rattle.ds_model.specs.Scheme.{Scheme, Item, Hello, Framed, Failure}
 use Rattle.ds_model.specs.Plan.{HostPlan, Plan, host_plan, box_plan, inlet_name, no_inlet}
 use Rattle.ds_model.specs.Mailbox.{put}
 use Rattle.ds_model.specs.Inlet.{Inlet, numbered}
-use Rattle.ds_model.specs.World.{Mail, Mailbox, Conn, Host}
+use Rattle.ds_model.specs.World.{Mail, Mailbox, Conn, Host, Passed}
 use Rattle.ds_model.specs.Asking.{box_of, mail_of}
-use Rattle.ds_model.specs.Connecting.{ConnAsk, Quiet, Become, Number, JudgeOne, Hand, peer, inlet_of, take_frame, frame_from, fail, accept_item, accept_free, accept, put_passed, deliver_to, deliver_from, deliver, judge_delivery, told_delivery}
+use Rattle.ds_model.specs.Connecting.{ConnAsk, Quiet, Become, Number, JudgeOne, Hand, hello_of, peer, inlet_of, take_frame, frame_from, fail, accept_item, accept_free, accept, put_passed, deliver_to, deliver_from, deliver, judge_delivery, told_delivery}
 use Rattle.ds_model.specs.Step.{fresh_in, perform_conn}
 use Rattle.ds_noninterference.specs.High.{is_in, high_box, HighInlet}
 use Rattle.ds_noninterference.specs.Alike.{Alike, AlikeHosts}
@@ -34,11 +34,13 @@ pub record NumberFacts (s : Scheme) (plan : HostPlan) (y : Conn) (bytes : List �
   pub read : peer s plan bytes ≡ Some cert
   pub frame : slice_get (s.items plan.key plan.inlets bytes) place ≡ Some (Framed number messages)
   pub inlet : inlet_of plan cert ≡ Some i
+  pub next : place ≡ y.taken
+  pub begun : 0 < y.taken
   pub fresh_same : fresh.passed ≡ y.passed
   pub stale_same : stale.passed ≡ y.passed
 
 pub record HandFacts (plan : HostPlan) (y : Conn) (b : ℕ) (next : Conn) : Type 0 where
-  pub message : Message
+  pub message : Passed
   pub passed : y.passed ≡ Some message
   pub box : box_of plan message.slot ≡ Some b
   pub empty : next.passed ≡ None
@@ -50,13 +52,18 @@ ConnFacts s plan y bytes (Number i n fresh stale) = NumberFacts s plan y bytes i
 ConnFacts s plan y bytes (JudgeOne cert m rest) = peer s plan bytes ≡ Some cert
 ConnFacts s plan y bytes (Hand b m next) = HandFacts plan y b next
 
-frame_facts : (s : Scheme) (plan : HostPlan) (y : Conn) (bytes : List ℕ) (place n : ℕ) (ms : List Message) (o : Option LaneCert) → peer s plan bytes ≡ o → slice_get (s.items plan.key plan.inlets bytes) place ≡ Some (Framed n ms) → ConnFacts s plan y bytes (frame_from plan y n ms o)
-frame_facts s plan y bytes place n ms None e f = tt
-frame_facts s plan y bytes place n ms (Some cert) e f = go (inlet_of plan cert) refl
+-- the first item is the hello, so a frame isn't
+after_hello : (s : Scheme) (plan : HostPlan) (bytes : List ℕ) (place n : ℕ) (ms : List Message) (cert : LaneCert) → peer s plan bytes ≡ Some cert → slice_get (s.items plan.key plan.inlets bytes) place ≡ Some (Framed n ms) → 0 < place
+after_hello s plan bytes zero n ms cert e f = absurd (let no : None ≡ Some cert = sym (ap hello_of f) ∙ e in grind arith)
+after_hello s plan bytes (suc place) n ms cert e f = omega arith
+
+frame_facts : (s : Scheme) (plan : HostPlan) (y : Conn) (bytes : List ℕ) (n : ℕ) (ms : List Message) (o : Option LaneCert) → peer s plan bytes ≡ o → slice_get (s.items plan.key plan.inlets bytes) y.taken ≡ Some (Framed n ms) → ConnFacts s plan y bytes (frame_from plan y n ms o)
+frame_facts s plan y bytes n ms None e f = tt
+frame_facts s plan y bytes n ms (Some cert) e f = go (inlet_of plan cert) refl
   where
     go : (o : Option ℕ) → inlet_of plan cert ≡ o → ConnFacts s plan y bytes (take_frame y n ms o)
     go None q = tt
-    go (Some i) q = record { cert = cert; place = place; number = n; messages = ms; read = e; frame = f; inlet = q; fresh_same = refl; stale_same = refl }
+    go (Some i) q = record { cert = cert; place = y.taken; number = n; messages = ms; read = e; frame = f; inlet = q; next = refl; begun = after_hello s plan bytes y.taken n ms cert e f; fresh_same = refl; stale_same = refl }
 
 fail_facts : (s : Scheme) (plan : HostPlan) (y : Conn) (bytes : List ℕ) (o : Option Failure) → ConnFacts s plan y bytes (fail y o)
 fail_facts s plan y bytes None = tt
@@ -65,9 +72,9 @@ fail_facts s plan y bytes (Some fault) = inl refl
 item_facts : (s : Scheme) (plan : HostPlan) (y : Conn) (bytes : List ℕ) (o : Option Item) → slice_get (s.items plan.key plan.inlets bytes) y.taken ≡ o → ConnFacts s plan y bytes (accept_item s plan y bytes o)
 item_facts s plan y bytes None e = fail_facts s plan y bytes (s.ending plan.key plan.inlets bytes)
 item_facts s plan y bytes (Some (Hello cert)) e = inl refl
-item_facts s plan y bytes (Some (Framed n ms)) e = frame_facts s plan y bytes y.taken n ms _ refl e
+item_facts s plan y bytes (Some (Framed n ms)) e = frame_facts s plan y bytes n ms _ refl e
 
-free_facts : (s : Scheme) (plan : HostPlan) (y : Conn) (bytes : List ℕ) (hand : List Message) (passed : Option Message) (failed : Option Failure) → ConnFacts s plan y bytes (accept_free s plan y bytes hand passed failed)
+free_facts : (s : Scheme) (plan : HostPlan) (y : Conn) (bytes : List ℕ) (hand : List Message) (passed : Option Passed) (failed : Option Failure) → ConnFacts s plan y bytes (accept_free s plan y bytes hand passed failed)
 free_facts s plan y bytes [] None None = item_facts s plan y bytes _ refl
 free_facts s plan y bytes (m ∷ hand) passed failed = tt
 free_facts s plan y bytes [] (Some m) failed = tt
@@ -76,12 +83,12 @@ free_facts s plan y bytes [] None (Some fault) = tt
 pub accept_facts : (s : Scheme) (plan : HostPlan) (y : Conn) (bytes : List ℕ) → ConnFacts s plan y bytes (accept s plan y bytes)
 accept_facts s plan y bytes = cond_case (ConnFacts s plan y bytes) plan.silent Quiet (accept_free s plan y bytes y.hand y.passed y.failed) (λ _. tt) (λ _. free_facts s plan y bytes y.hand y.passed y.failed)
 
-put_facts : (s : Scheme) (plan : HostPlan) (y : Conn) (bytes : List ℕ) (message : Message) (m : Mail Category) (o : Option ℕ) → y.passed ≡ Some message → box_of plan message.slot ≡ o → ConnFacts s plan y bytes (put_passed y m o)
+put_facts : (s : Scheme) (plan : HostPlan) (y : Conn) (bytes : List ℕ) (message : Passed) (m : Mail Category) (o : Option ℕ) → y.passed ≡ Some message → box_of plan message.slot ≡ o → ConnFacts s plan y bytes (put_passed y m o)
 put_facts s plan y bytes message m None e q = tt
 put_facts s plan y bytes message m (Some b) e q = record { message = message; passed = e; box = q; empty = refl }
 
-to_facts : (s : Scheme) (plan : HostPlan) (y : Conn) (bytes : List ℕ) (cert : LaneCert) (hand : List Message) (o : Option Message) → peer s plan bytes ≡ Some cert → y.passed ≡ o → ConnFacts s plan y bytes (deliver_to plan y cert hand o)
-to_facts s plan y bytes cert hand (Some m) e q = put_facts s plan y bytes m (mail_of cert.exporter m) _ q refl
+to_facts : (s : Scheme) (plan : HostPlan) (y : Conn) (bytes : List ℕ) (cert : LaneCert) (hand : List Message) (o : Option Passed) → peer s plan bytes ≡ Some cert → y.passed ≡ o → ConnFacts s plan y bytes (deliver_to plan y cert hand o)
+to_facts s plan y bytes cert hand (Some m) e q = put_facts s plan y bytes m m.mail _ q refl
 to_facts s plan y bytes cert [] None e q = tt
 to_facts s plan y bytes cert (m ∷ rest) None e q = e
 
@@ -184,5 +191,5 @@ module _ (s : Scheme) (c : Category) (trusted : List ℕ) (plan : Plan) (r : ℕ
     same_conn Quiet q = refl
     same_conn (Become next) q = refl
     same_conn (Number i n fresh stale) q = ap (λ o. if fresh_in n o then fresh else stale) (seen_inlet q (alike.inlets i))
-    same_conn (JudgeOne cert m rest) q = ap (λ d. told_delivery m rest (judge_delivery s (host_plan plan r) d cert m) y) alike.desk
+    same_conn (JudgeOne cert m rest) q = ap (λ d. told_delivery cert m rest (judge_delivery s (host_plan plan r) d cert m) y) alike.desk
     same_conn (Hand b m next) q = refl

@@ -156,9 +156,9 @@ module _ (s : Scheme) (c : Category) (trusted : List ℕ) (plan : Plan) where
         low_number Link i n fresh stale q low f hi =
             let found : ((inlet_name (host_plan plan (wire plan k).host) i).exporter ≡ f.cert.exporter) × ((inlet_name (host_plan plan (wire plan k).host) i).lane ≡ f.cert.lane) = inlet_found (host_plan plan (wire plan k).host) f.cert i f.inlet in
             let by : f.cert.exporter ≡ (lane_plan (host_plan plan hi.host) hi.lane).cert.exporter = sym (hi.by ∙ found.0) in
-            let u : (h : ℕ) × (l : ℕ) × IsLane plan h l × (f.cert ≡ (lane_plan (host_plan plan h) l).cert) = sound.unforged.certs k y f.cert there q f.read (subst (IsTrusted trusted plan) (sym by) (fits.by hi.host hi.lane hi.high)) in
+            let u : (h : ℕ) × (l : ℕ) × IsLane plan h l × (f.cert ≡ (lane_plan (host_plan plan h) l).cert) = sound.unforged.certs k y f.cert there q f.read f.begun (subst (IsTrusted trusted plan) (sym by) (fits.by hi.host hi.lane hi.high)) in
             let same : (u.0 ≡ hi.host) × (u.1 ≡ hi.lane) = fits.lanes hi.host hi.lane u.0 u.1 hi.high u.2 (ap (λ z. z.exporter) (sym u.3) ∙ by) (ap (λ z. z.lane) (sym u.3) ∙ sym (hi.number ∙ found.1)) in
-            sound.unforged.frames k y f.cert f.place f.number f.messages there q f.read f.frame hi.host hi.lane hi.high
+            sound.unforged.frames k y f.cert f.place f.number f.messages there q f.read f.frame (omega (arith, f.next)) hi.host hi.lane hi.high
             (ap (λ z. z.key) u.3 ∙ ap₂ (λ a b. (lane_plan (host_plan plan a) b).cert.key) same.0 same.1)
         low_number (OfLane h l) i n fresh stale q low f hi =
             let own : f.cert ≡ (lane_plan (host_plan plan h) l).cert = own_peer h l (fits.real k h l q) (host_plan plan (wire plan k).host) y f.cert f.read in

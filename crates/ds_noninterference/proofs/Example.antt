@@ -61,8 +61,8 @@ all_issues w (e ∷ events) a = (issues w (and_left _ _ a), all_issues (step emp
 unforged : (w : World) → NothingForged empty_scheme a_secret (0 ∷ []) pair w
 unforged w = record {
   stores = λ g y d there m about good by. absurd (false_true good);
-  certs = λ k y lane there source read by. absurd (none_some lane read);
-  frames = λ k y lane j number messages there source read frame h l high. absurd (none_some lane read);
+  certs = λ k y lane there source read begun by. absurd (none_some lane read);
+  frames = λ k y lane j number messages there source read frame next h l high. absurd (none_some lane read);
 }
 
 all_unforged : (w : World) (events : List Event) → Unforged empty_scheme a_secret (0 ∷ []) pair w events

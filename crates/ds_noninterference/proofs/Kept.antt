@@ -15,7 +15,7 @@ use Rattle.ds_model.specs.Scheme.{Scheme}
 use Rattle.ds_model.specs.Plan.{Plan, host_plan, wire, box_plan, lane_plan}
 use Rattle.ds_model.specs.Lane.{admit, lifted}
 use Rattle.ds_model.specs.Desk.{Act, Reply, act_entry, reply_of}
-use Rattle.ds_model.specs.World.{Process, Mail, Waiting, Queue, Worker, Conn, Host, World}
+use Rattle.ds_model.specs.World.{Process, Mail, Waiting, Queue, Worker, Conn, Host, World, Passed}
 use Rattle.ds_model.specs.Asking.{Ask, Stay, Alone, Put, Admit, TakeFrom, Do, Judge, box_of, ask, told_taken, told_act, told_judged}
 use Rattle.ds_model.specs.LaneWork.{LaneAsk, Wait, Lift, Check, lane_ask, told_lifted, told_checked, with_frame}
 use Rattle.ds_model.specs.Step.{oldest_in, judged, attached, perform, step_proc, front_of, perform_lane, step_lane}
@@ -35,7 +35,7 @@ pub record KeptHost (s : Scheme) (c : Category) (trusted : List ℕ) (plan : Pla
 
 -- what a High connection passed is for a High mailbox
 abbrev pub KeptConn : Category → List ℕ → Plan → ℕ → Conn → Type 0
-KeptConn c trusted plan k y = high_conn c trusted plan k ≡ true → (m : Message) (b : ℕ) → y.passed ≡ Some m → box_of (host_plan plan (wire plan k).host) m.slot ≡ Some b → has by_name c (box_plan (host_plan plan (wire plan k).host) b).label ≡ true
+KeptConn c trusted plan k y = high_conn c trusted plan k ≡ true → (m : Passed) (b : ℕ) → y.passed ≡ Some m → box_of (host_plan plan (wire plan k).host) m.slot ≡ Some b → has by_name c (box_plan (host_plan plan (wire plan k).host) b).label ≡ true
 
 pub record Kept (s : Scheme) (c : Category) (trusted : List ℕ) (plan : Plan) (w : World) : Type 0 where
   pub hosts : (h : ℕ) (x : Host) → slice_get w.hosts h ≡ Some x → KeptHost s c trusted plan h x

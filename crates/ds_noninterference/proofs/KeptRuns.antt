@@ -14,9 +14,9 @@ use Rattle.ds_model.specs.Scheme.{Scheme}
 use Rattle.ds_model.specs.Plan.{HostPlan, Plan, Source, Link, OfLane, host_plan, wire, box_plan}
 use Rattle.ds_model.specs.Desk.{Desk, Ticked, desk_after}
 use Rattle.ds_model.specs.ExporterRules.{receiver_rule}
-use Rattle.ds_model.specs.World.{Conn, Host, World}
+use Rattle.ds_model.specs.World.{Conn, Host, World, Passed}
 use Rattle.ds_model.specs.Asking.{box_of, label_of, target, judge_box}
-use Rattle.ds_model.specs.Connecting.{ConnAsk, Quiet, Become, Number, JudgeOne, Hand, peer, target_rule, judge_delivery, told_delivery}
+use Rattle.ds_model.specs.Connecting.{ConnAsk, Quiet, Become, Number, JudgeOne, Hand, peer, target_rule, judge_delivery, told_delivery, passed_of}
 use Rattle.ds_model.specs.Step.{Event, Step, Frame, Arrive, Accept, Deliver, Tick, Inject, Copy, fresh_in, perform_conn, arrived, injected, step_conn, ticked, on_host, on_conn, happens}
 use Rattle.ds_noninterference.specs.High.{high_source}
 use Rattle.ds_noninterference.specs.Premises.{IsScheme}
@@ -75,10 +75,10 @@ module _ (s : Scheme) (c : Category) (secret : is_secrecy c.kind ≡ true) (trus
     source_label Link q here cert high e = absurd (grind arith)
     source_label (OfLane h l) q here cert high e = subst (λ z. has by_name c z.label ≡ true) (sym (own_peer s c trusted plan is w kept h l (fits.real k h l q) here y cert e)) (and_right _ _ (and_left _ _ high))
 
-    told_kept : (cert : LaneCert) (m : Message) (rest : List Message) (o : Option Rule) → judge_delivery s (host_plan plan (wire plan k).host) x.desk cert m ≡ o → peer s (host_plan plan (wire plan k).host) (arrived w (wire plan k).source y) ≡ Some cert → KeptConn c trusted plan k (told_delivery m rest o y)
+    told_kept : (cert : LaneCert) (m : Message) (rest : List Message) (o : Option Rule) → judge_delivery s (host_plan plan (wire plan k).host) x.desk cert m ≡ o → peer s (host_plan plan (wire plan k).host) (arrived w (wire plan k).source y) ≡ Some cert → KeptConn c trusted plan k (told_delivery cert m rest o y)
     told_kept cert m rest (Some rule) j e = λ high m' b p q. kept.conns k y there high m' b p q
     told_kept cert m rest None j e = λ high m' b p q.
-        let same : m ≡ m' = some_eq m m' p in
+        let same : passed_of cert m ≡ m' = some_eq (passed_of cert m) m' p in
         judged_box (host_plan plan (wire plan k).host) x.desk cert m b (source_label (wire plan k).source refl (host_plan plan (wire plan k).host) cert high e) j (ap (λ z. box_of (host_plan plan (wire plan k).host) z.slot) same ∙ q)
 
     same_kept : (next : Conn) → next.passed ≡ y.passed → KeptConn c trusted plan k next
@@ -95,7 +95,7 @@ module _ (s : Scheme) (c : Category) (secret : is_secrecy c.kind ≡ true) (trus
     conn_kept (JudgeOne cert m rest) f = told_kept cert m rest _ refl f
     conn_kept (Hand b m next) f = λ high m' b' p q. absurd (none_some m' (sym f.empty ∙ p))
       where
-        none_some : (m' : Message) → None ≡ Some m' → ⊥
+        none_some : (m' : Passed) → None ≡ Some m' → ⊥
         none_some m' e = grind arith
 
   keep_conn : (k : ℕ) (asks : Conn → ConnAsk) → ((y : Conn) → ConnFacts s (host_plan plan (wire plan k).host) y (arrived w (wire plan k).source y) (asks y)) → (o : Option Host) (q : Option Conn) → slice_get w.hosts (wire plan k).host ≡ o → slice_get w.conns k ≡ q → Kept s c trusted plan (step_conn s plan w (wire plan k).host k asks o q)

@@ -14,3 +14,5 @@ pub mod Induction
 pub mod Views
 pub mod Outside
 pub mod Example
+pub mod Owners
+pub mod Network

@@ -5,3 +5,5 @@ pub mod Premises
 pub mod Outside
 pub mod Law
 pub mod Example
+pub mod Owners
+pub mod Network

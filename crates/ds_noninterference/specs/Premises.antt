@@ -1,5 +1,5 @@
 -- What the law asks: of the scheme, of setup, of the trusted hosts, and of the outside.
-use Rattle.std.specs.Prelude.{◌≡◌, ◌≢◌, ℕ, Bool, true, false, List, [], ◌++◌, Some, None, slice_get, ◌⊎◌, Contains, take}
+use Rattle.std.specs.Prelude.{◌≡◌, ◌≢◌, ◌<◌, ◌≤◌, ℕ, Bool, true, false, List, [], ◌++◌, Some, None, slice_get, ◌⊎◌, Contains, take}
 use Rattle.ds_label.specs.declared.category.PubKey.{PubKey}
 use Rattle.ds_label.specs.declared.category.Category.{Category}
 use Rattle.ds_cert.specs.declared.delegation.Delegation.{Delegation}
@@ -65,11 +65,11 @@ pub record NothingForged (s : Scheme) (c : Category) (trusted : List ℕ) (plan 
   pub stores : (g : ℕ) (y : Host) (d : Delegation) → slice_get w.hosts g ≡ Some y → Contains y.desk.store d → d.category ≡ c → s.good d ≡ true → IsTrusted trusted plan d.by →
       (h : ℕ) × (x : Host) × (is_in trusted h ≡ true) × (slice_get w.hosts h ≡ Some x) × Contains x.desk.issued d
   -- a lane certificate of a trusted host's key that a link's connection read is that of a lane
-  pub certs : (k : ℕ) (y : Conn) (lane : LaneCert) → slice_get w.conns k ≡ Some y → (wire plan k).source ≡ Link → peer s (host_plan plan (wire plan k).host) (arrived w Link y) ≡ Some lane → IsTrusted trusted plan lane.exporter →
+  pub certs : (k : ℕ) (y : Conn) (lane : LaneCert) → slice_get w.conns k ≡ Some y → (wire plan k).source ≡ Link → peer s (host_plan plan (wire plan k).host) (arrived w Link y) ≡ Some lane → 0 < y.taken → IsTrusted trusted plan lane.exporter →
       (h : ℕ) × (l : ℕ) × IsLane plan h l × (lane ≡ (lane_plan (host_plan plan h) l).cert)
   -- no frame that was read on a link is signed by the key of a high lane
   pub frames : (k : ℕ) (y : Conn) (lane : LaneCert) (j number : ℕ) (messages : List Message) → slice_get w.conns k ≡ Some y → (wire plan k).source ≡ Link → peer s (host_plan plan (wire plan k).host) (arrived w Link y) ≡ Some lane →
-      slice_get (s.items (host_plan plan (wire plan k).host).key (host_plan plan (wire plan k).host).inlets (arrived w Link y)) j ≡ Some (Framed number messages) →
+      slice_get (s.items (host_plan plan (wire plan k).host).key (host_plan plan (wire plan k).host).inlets (arrived w Link y)) j ≡ Some (Framed number messages) → j ≤ y.taken →
       (h l : ℕ) → high_lane c trusted plan h l ≡ true → lane.key ≢ (lane_plan (host_plan plan h) l).cert.key
 
 -- at each world of the run

@@ -5,6 +5,8 @@
 ghost use Rattle.ds_noninterference.specs.Alike.{AlikeWorlds};
 ghost use Rattle.ds_noninterference.specs.Law.{AtEnd, SameProcesses, SameHosts, SameDesks, SameArrivals, SameSections};
 ghost use Rattle.ds_noninterference.specs.Example.{IsMet, IsMarked, IsPrinted};
+ghost use Rattle.ds_noninterference.specs.Owners.{OnlyOwnersRelease};
+ghost use Rattle.ds_noninterference.specs.Network.{IsNetMet, IsNetMarked, IsNetSeen};
 
 /// Two runs, from worlds that are equal but for what is high, whose marks agree, of trusted hosts that obey, with nothing
 /// forged: at their ends the worlds are equal but for what is high, each process that isn't high and each host that isn't
@@ -25,4 +27,16 @@ pub fn an_example()
     ensures met { IsMet }
     ensures marked { IsMarked }
     ensures printed { IsPrinted }
+{}
+
+/// At each event of each run from setup, a process that releases owns the category.
+pub fn only_owners_release()
+    ensures { OnlyOwnersRelease }
+{}
+
+/// Two runs over a network with an outsider, computed.
+pub fn a_network()
+    ensures met { IsNetMet }
+    ensures marked { IsNetMarked }
+    ensures seen { IsNetSeen }
 {}

@@ -1,3 +1,7 @@
+use Rattle.std.proofs.Common.{refl, Some}
+use Rattle.ds_inlet.specs.declared.offer.ConnEntry.TheVariants as entries
+use Rattle.ds_inlet.specs.Fields.{connection_of}
+use Rattle.ds_inlet.proofs.Accepting.{judged_kept}
 use Rattle.std.proofs.lemmas.List.Elements.{All-rest}
 use Rattle.ds_msg.specs.Ranges.{MessageRange}
 use Rattle.ds_inlet.proofs.conn.Conn.pass.Goals as goal
@@ -10,4 +14,5 @@ invariant_of-self c = record {
   offered_range = c.self.invariant.offered_range;
   hand = All-rest MessageRange c.in-Some.first c.pop_front.new.self.items c.self.inside.hand.items c.in-Some.ensures.items c.self.invariant.hand;
   passed = c.requires.short;
+  so_far = judged_kept (connection_of c.self.inside) (entries.Pass c.in-Some.first.slot) c.pop_front.new.self.items (Some (c.in-Some.first.slot, c.args.message)) c.push_reserved.new.self.items c.self.invariant.so_far refl c.push_reserved.ensures.items;
 }
