@@ -1,7 +1,7 @@
 pub mod Counts
 pub mod Marks
-pub mod Plans
+pub mod FaultPlans
 pub mod Memory
 pub mod Texts
 pub mod Edge
-pub mod Views
+pub mod Inside

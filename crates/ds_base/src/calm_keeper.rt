@@ -20,7 +20,7 @@ impl Model for CalmKeeper {
 
     ghost Value = { CalmMarks };
 
-    ghost use Rattle.ds_base.specs.Views.{calm_marks_of};
+    ghost use Rattle.ds_base.specs.Inside.{calm_marks_of};
 
     ghost view = { calm_marks_of };
 }

@@ -3,7 +3,7 @@
 
 ghost use Rattle.std.specs.Prelude.{◌≡◌, ◌<◌, ◌≤◌, ◌++◌, Some, length, take, min, IfOk, if◌then◌else◌, ◌==◌};
 ghost use Rattle.ds_base.specs.Counts.{Rose, Took};
-ghost use Rattle.ds_base.specs.Plans.{one_more};
+ghost use Rattle.ds_base.specs.FaultPlans.{one_more};
 
 use crate::failed::Failed;
 use crate::source::Source;
@@ -24,7 +24,7 @@ impl Model for CalmSource {
     ghost Value = { CalmSupply };
 
     ghost use Rattle.std.specs.Prelude.{vec_len, ◌≤◌};
-    ghost use Rattle.ds_base.specs.Views.{calm_supply_of};
+    ghost use Rattle.ds_base.specs.Inside.{calm_supply_of};
 
     ghost view = { calm_supply_of };
 

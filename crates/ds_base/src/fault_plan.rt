@@ -2,7 +2,7 @@
 #![tactic(auto)]
 
 ghost use Rattle.std.specs.Prelude.{◌≡◌, ◌↔◌, IsErr, MatchResult, vec_items};
-ghost use Rattle.ds_base.specs.Plans.{Plan, IsDue, one_more, passed, failed, plan_of};
+ghost use Rattle.ds_base.specs.FaultPlans.{PlannedFaults, IsDue, one_more, passed, failed, plan_of};
 
 use crate::failed::Failed;
 use std::marker::Model;
@@ -16,11 +16,11 @@ pub(crate) struct FaultPlan {
 }
 
 impl Model for FaultPlan {
-    ghost use Rattle.ds_base.specs.Plans.{Plan};
+    ghost use Rattle.ds_base.specs.FaultPlans.{PlannedFaults};
 
-    ghost Value = { Plan };
+    ghost Value = { PlannedFaults };
 
-    ghost use Rattle.ds_base.specs.Views.{plan_seen};
+    ghost use Rattle.ds_base.specs.Inside.{plan_seen};
 
     ghost view = { plan_seen };
 }

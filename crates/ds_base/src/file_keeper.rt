@@ -153,7 +153,7 @@ impl<R: Files + Drop> Model for FileKeeper<R> {
 
     ghost Value = { Folder };
 
-    ghost use Rattle.ds_base.specs.Views.{folder_of};
+    ghost use Rattle.ds_base.specs.Inside.{folder_of};
 
     ghost view = { folder_of };
 }

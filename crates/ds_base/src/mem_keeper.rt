@@ -4,7 +4,7 @@
 ghost use Rattle.std.specs.Prelude.{◌≡◌, ◌≢◌, ◌↔◌, ◌⊎◌, max, position, AllPairs, Contains, Some, IfOk, OnOk, OnErr, IsOk, IsErr, MatchResult};
 ghost use Rattle.std.specs.Str.{bytes_eq};
 ghost use Rattle.ds_base.specs.Marks.{Raised, MayBeRaised, KeepsOthers, IsKept, mark_of};
-ghost use Rattle.ds_base.specs.Plans.{IsDue, passed, failed, plan_of};
+ghost use Rattle.ds_base.specs.FaultPlans.{IsDue, passed, failed, plan_of};
 
 use crate::failed::Failed;
 use crate::fault_plan::FaultPlan;
@@ -28,7 +28,7 @@ impl Model for MemKeeper {
 
     ghost Value = { Marks };
 
-    ghost use Rattle.ds_base.specs.Views.{marks_of};
+    ghost use Rattle.ds_base.specs.Inside.{marks_of};
 
     ghost view = { marks_of };
 }

@@ -3,7 +3,7 @@
 
 ghost use Rattle.std.specs.Prelude.{◌≡◌, ◌<◌, ◌≤◌, Some, length, min, IfOk, IfErr, IsErr, MatchResult};
 ghost use Rattle.ds_base.specs.Counts.{Rose, Wrote};
-ghost use Rattle.ds_base.specs.Plans.{IsDue, passed, failed, plan_of};
+ghost use Rattle.ds_base.specs.FaultPlans.{IsDue, passed, failed, plan_of};
 
 use crate::failed::Failed;
 use crate::fault_plan::FaultPlan;
@@ -27,7 +27,7 @@ impl Model for MemSink {
 
     ghost Value = { Output };
 
-    ghost use Rattle.ds_base.specs.Views.{output_of};
+    ghost use Rattle.ds_base.specs.Inside.{output_of};
 
     ghost view = { output_of };
 

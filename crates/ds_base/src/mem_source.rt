@@ -3,7 +3,7 @@
 
 ghost use Rattle.std.specs.Prelude.{◌≡◌, ◌<◌, ◌≤◌, ◌↔◌, Some, length, min, IfOk, IfErr, IsErr, MatchResult, if◌then◌else◌, ◌==◌};
 ghost use Rattle.ds_base.specs.Counts.{Rose, Took};
-ghost use Rattle.ds_base.specs.Plans.{IsDue, passed, failed, plan_of, one_more};
+ghost use Rattle.ds_base.specs.FaultPlans.{IsDue, passed, failed, plan_of, one_more};
 
 use crate::calm_source::CalmSource;
 use crate::failed::Failed;
@@ -24,7 +24,7 @@ impl Model for MemSource {
 
     ghost Value = { Supply };
 
-    ghost use Rattle.ds_base.specs.Views.{supply_of};
+    ghost use Rattle.ds_base.specs.Inside.{supply_of};
 
     ghost view = { supply_of };
 }

@@ -2,7 +2,7 @@
 #![tactic(auto)]
 
 ghost use Rattle.std.specs.Prelude.{◌≡◌, ◌↔◌, ◌∷◌, ◌⊎◌, [], IfOk, IfErr, IsErr, MatchResult};
-ghost use Rattle.ds_base.specs.Plans.{IsDue, passed, failed, plan_of};
+ghost use Rattle.ds_base.specs.FaultPlans.{IsDue, passed, failed, plan_of};
 
 use crate::failed::Failed;
 use crate::fault_plan::FaultPlan;
@@ -25,7 +25,7 @@ impl<I: Drop, O: Drop> Model for MemWire<I, O> {
 
     ghost Value = { Connections I O };
 
-    ghost use Rattle.ds_base.specs.Views.{connections_of};
+    ghost use Rattle.ds_base.specs.Inside.{connections_of};
 
     ghost view = { connections_of };
 }

@@ -4,7 +4,7 @@
 ghost use Rattle.std.specs.Prelude.{◌≡◌, ◌<◌, ◌≤◌, None, length, IfOk, IfErr, OnErr, OnOk, if◌then◌else◌, ◌==◌};
 ghost use Rattle.std.specs.Io.KnownBytes.{ReadConsumes, Keeps};
 ghost use Rattle.ds_base.specs.Counts.{Rose, Took};
-ghost use Rattle.ds_base.specs.Plans.{one_more};
+ghost use Rattle.ds_base.specs.FaultPlans.{one_more};
 
 use crate::failed::Failed;
 use crate::source::Source;
@@ -28,7 +28,7 @@ impl<R: Read + Drop> Model for ReadSource<R> {
 
     ghost Value = { Reading R };
 
-    ghost use Rattle.ds_base.specs.Views.{reading_of};
+    ghost use Rattle.ds_base.specs.Inside.{reading_of};
 
     ghost view = { reading_of };
 }

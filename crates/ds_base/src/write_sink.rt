@@ -26,7 +26,7 @@ impl<W: Write + Drop> Model for WriteSink<W> {
 
     ghost Value = { Writing W };
 
-    ghost use Rattle.ds_base.specs.Views.{writing_of};
+    ghost use Rattle.ds_base.specs.Inside.{writing_of};
 
     ghost view = { writing_of };
 }

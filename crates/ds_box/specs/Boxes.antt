@@ -20,7 +20,7 @@ pub record Mailbox : Type 0 where
   pub waiting : List LocalMessage
 
 -- a mailbox, and for how many calls there is memory
-pub record RoomyMailbox : Type 0 where
+pub record MailboxWithCapacity : Type 0 where
   pub mailbox : Mailbox
   pub spare : ℕ
 

@@ -34,11 +34,11 @@ pub struct BoxState {
 }
 
 impl Model for BoxState {
-    ghost use Rattle.ds_box.specs.Boxes.{RoomyMailbox};
+    ghost use Rattle.ds_box.specs.Boxes.{MailboxWithCapacity};
 
-    ghost Value = { RoomyMailbox };
+    ghost Value = { MailboxWithCapacity };
 
-    ghost use Rattle.ds_box.specs.Sound.{seen_of, IsSound};
+    ghost use Rattle.ds_box.specs.Inside.{seen_of, IsSound};
 
     ghost view = { seen_of };
 

@@ -4,5 +4,5 @@ pub mod Spelling
 pub mod Ranges
 pub mod Reading
 pub mod Laws
-pub mod Kept
+pub mod NoDoubles
 pub mod Good

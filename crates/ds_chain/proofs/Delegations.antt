@@ -1,4 +1,4 @@
--- What it means that a delegation counts, and what a hop of a list of delegations says.
+-- What it means that a delegation counts, and what a edge of a list of delegations says.
 use Rattle.std.proofs.Common.{◌≡◌, ℕ, ◌<◌, ◌≤◌, Bool, true, false, cond, List, refl, sym, ◌∙◌, ap}
 use Rattle.std.specs.Prelude.{Option, Some, None, is_none, option_map, slice_get}
 use Rattle.std.specs.Bool.{Decides}
@@ -16,8 +16,8 @@ use Rattle.ds_label.proofs.Namings.{names}
 use Rattle.ds_cert.specs.declared.delegation.Delegation.{Delegation}
 use Rattle.ds_cert.specs.Good.{is_good_delegation}
 use Rattle.ds_cert.specs.Spelling.{signed_part_of_delegation}
-use Rattle.ds_chain.specs.declared.hop.Hop.{Hop}
-use Rattle.ds_chain.specs.Chain.{IsHop}
+use Rattle.ds_chain.specs.declared.edge.Edge.{Edge}
+use Rattle.ds_chain.specs.Chain.{IsEdge}
 use Rattle.ds_chain.specs.Delegated.{counts, hop_of, hops_of_list, Delegates}
 
 none_is : (fault : Option Bad) → is_none fault ≡ true → fault ≡ None
@@ -46,36 +46,36 @@ counts_is moment category d =
       λ known. parts.1 (known.subject, ((known.begun, known.lasting), known.good)),
     )
 
--- a delegation that has a hop counts, and the hop is from its signer to the key that it names
-pub record HasHop (moment : ℕ) (category : Category) (d : Delegation) (hop : Hop PubKey) : Type 0 where
+-- a delegation that has a edge counts, and the edge is from its signer to the key that it names
+pub record HasHop (moment : ℕ) (category : Category) (d : Delegation) (edge : Edge PubKey) : Type 0 where
   pub counts : Counts moment category d
-  pub signer : d.by ≡ hop.by
-  pub named : d.to ≡ hop.to
+  pub signer : d.by ≡ edge.by
+  pub named : d.to ≡ edge.to
 
-pub hop_is : (moment : ℕ) (category : Category) (d : Delegation) (hop : Hop PubKey) → hop_of moment category d ≡ Some hop → HasHop moment category d hop
-hop_is moment category d hop e = at_test (counts moment category d) refl e
+pub hop_is : (moment : ℕ) (category : Category) (d : Delegation) (edge : Edge PubKey) → hop_of moment category d ≡ Some edge → HasHop moment category d edge
+hop_is moment category d edge e = at_test (counts moment category d) refl e
   where
-    at_test : (b : Bool) → counts moment category d ≡ b → cond b (Some (record { by = d.by; to = d.to })) None ≡ Some hop → HasHop moment category d hop
+    at_test : (b : Bool) → counts moment category d ≡ b → cond b (Some (record { by = d.by; to = d.to })) None ≡ Some edge → HasHop moment category d edge
     at_test true f q =
-        let same : record { by = d.by; to = d.to } ≡ hop = same_Some _ hop q in
-        record { counts = (counts_is moment category d).0 f; signer = ap (λ (h : Hop PubKey). h.by) same; named = ap (λ (h : Hop PubKey). h.to) same }
+        let same : record { by = d.by; to = d.to } ≡ edge = same_Some _ edge q in
+        record { counts = (counts_is moment category d).0 f; signer = ap (λ (h : Edge PubKey). h.by) same; named = ap (λ (h : Edge PubKey). h.to) same }
     at_test false f q = absurd (none-some _ q)
 
 pub hop_from : (moment : ℕ) (category : Category) (d : Delegation) → Counts moment category d → hop_of moment category d ≡ Some (record { by = d.by; to = d.to })
 hop_from moment category d known =
     ap (λ (b : Bool). cond b (Some (record { by = d.by; to = d.to })) None) ((counts_is moment category d).1 known)
 
--- a hop stands at a place exactly where a delegation for the category does, valid and good
+-- a edge stands at a place exactly where a delegation for the category does, valid and good
 pub hop_delegates : (certs : List Delegation) (moment : ℕ) (category : Category) (place : ℕ) (by to : PubKey) →
-    IsHop (hops_of_list moment category certs) place by to → Delegates certs moment category place by to
+    IsEdge (hops_of_list moment category certs) place by to → Delegates certs moment category place by to
 hop_delegates certs moment category place by to h = at_place (slice_get certs place) refl (sym (slice_get-map (hop_of moment category) certs place) ∙ h)
   where
     at_place : (entry : Option Delegation) → slice_get certs place ≡ entry → option_map (hop_of moment category) entry ≡ Some (Some (record { by = by; to = to }))
         → Delegates certs moment category place by to
     at_place None e q = absurd (none-some _ q)
     at_place (Some d) e q =
-        let hop : Hop PubKey = record { by = by; to = to } in
-        let known = hop_is moment category d hop (same_Some _ (Some hop) q) in
+        let edge : Edge PubKey = record { by = by; to = to } in
+        let known = hop_is moment category d edge (same_Some _ (Some edge) q) in
         record {
           cert = d;
           stands = e;
@@ -88,11 +88,11 @@ hop_delegates certs moment category place by to h = at_place (slice_get certs pl
         }
 
 pub delegates_hop : (certs : List Delegation) (moment : ℕ) (category : Category) (place : ℕ) (by to : PubKey) →
-    Delegates certs moment category place by to → IsHop (hops_of_list moment category certs) place by to
+    Delegates certs moment category place by to → IsEdge (hops_of_list moment category certs) place by to
 delegates_hop certs moment category place by to known =
     let d = known.cert in
     let counted : Counts moment category d = record { subject = known.subject; begun = known.begun; lasting = known.lasting; good = (good_is d).1 known.good } in
     let named : hop_of moment category d ≡ Some (record { by = by; to = to }) = rw (← known.signer, ← known.named) (hop_from moment category d counted) in
     slice_get-map (hop_of moment category) certs place
     ∙ ap (λ (entry : Option Delegation). option_map (hop_of moment category) entry) known.stands
-    ∙ ap (λ (hop : Option (Hop PubKey)). Some hop) named
+    ∙ ap (λ (edge : Option (Edge PubKey)). Some edge) named

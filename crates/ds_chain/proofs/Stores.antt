@@ -14,7 +14,7 @@ use Rattle.ds_label.proofs.Members.{same-is}
 use Rattle.ds_label.proofs.Namings.{names}
 use Rattle.ds_cert.specs.declared.delegation.Delegation.{Delegation}
 use Rattle.ds_cert.specs.declared.address.Address.{Address}
-use Rattle.ds_cert.specs.Kept.{same_delegation, same_address}
+use Rattle.ds_cert.specs.NoDoubles.{same_delegation, same_address}
 use Rattle.ds_chain.specs.Stored.{IsStore}
 
 -- one more item that isn't there

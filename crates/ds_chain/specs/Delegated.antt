@@ -7,7 +7,7 @@ use Rattle.lms_sig.specs.Good.{IsGood}
 use Rattle.ds_cert.specs.declared.delegation.Delegation.{Delegation}
 use Rattle.ds_cert.specs.Spelling.{signed_part_of_delegation}
 use Rattle.ds_cert.specs.Good.{is_good_delegation}
-use Rattle.ds_chain.specs.declared.hop.Hop.{Hop}
+use Rattle.ds_chain.specs.declared.edge.Edge.{Edge}
 use Rattle.ds_chain.specs.Keys.{same_key}
 use Rattle.ds_chain.specs.Holding.{holds}
 use Rattle.ds_chain.specs.Shortest.{shortest_chain}
@@ -16,11 +16,11 @@ use Rattle.ds_chain.specs.Shortest.{shortest_chain}
 abbrev pub counts : ℕ → Category → Delegation → Bool
 counts moment category d = same_category d.category category && ((nat_le d.from moment && nat_lt moment d.until) && is_good_delegation d)
 
--- the hop of a delegation that counts, or none
-abbrev pub hop_of : ℕ → Category → Delegation → Option (Hop PubKey)
+-- the edge of a delegation that counts, or none
+abbrev pub hop_of : ℕ → Category → Delegation → Option (Edge PubKey)
 hop_of moment category d = if counts moment category d then Some (record { by = d.by; to = d.to }) else None
 
-abbrev pub hops_of_list : ℕ → Category → List Delegation → List (Option (Hop PubKey))
+abbrev pub hops_of_list : ℕ → Category → List Delegation → List (Option (Edge PubKey))
 hops_of_list moment category certs = map (hop_of moment category) certs
 
 -- whether the key holds the category at the moment: it is reached from the creator's in as many rounds as there are delegations

@@ -3,7 +3,7 @@
 ghost use Rattle.std.specs.Prelude.{◌≡◌, ◌≤◌, ◌<◌, ◌++◌, [], ◌∷◌, ◌↔◌, ◌≢◌, false, length, slice_index, slice_get, option_copied, vec_items, map, Err, IfOk, IsOk, OnOk, OnErr, IfSome, IsTrue, IsErrOf};
 ghost use Rattle.ds_cert.specs.declared.address.Address.{Address};
 ghost use Rattle.ds_cert.specs.Good.{is_good_address};
-ghost use Rattle.ds_cert.specs.Kept.{is_kept_address, same_address, with_address};
+ghost use Rattle.ds_cert.specs.NoDoubles.{is_kept_address, same_address, with_address};
 ghost use Rattle.ds_cert.specs.Ranges.{AddressRange};
 ghost use Rattle.ds_chain.specs.Addresses.{find_address, tells};
 ghost use Rattle.ds_chain.specs.Stored.{IsStore};
@@ -21,7 +21,7 @@ use std::marker::Model;
 #[derive(Debug, Drop)]
 pub struct AddressList {
     certs: Vec<Address>,
-    goods: Vec<bool>,
+    good_flags: Vec<bool>,
 }
 
 impl Model for AddressList {
@@ -33,9 +33,9 @@ impl Model for AddressList {
 
     ghost Value = { Stored Address };
 
-    ghost view = { λ l. record { items = l.certs.items; spare = min 1 (min (vec_capacity l.certs - vec_len l.certs) (vec_capacity l.goods - vec_len l.goods)) } };
+    ghost view = { λ l. record { items = l.certs.items; spare = min 1 (min (vec_capacity l.certs - vec_len l.certs) (vec_capacity l.good_flags - vec_len l.good_flags)) } };
 
-    ghost invariant = { λ l. IsStore 64 AddressRange l.certs.items × (l.goods.items ≡ map is_good_address l.certs.items) };
+    ghost invariant = { λ l. IsStore 64 AddressRange l.certs.items × (l.good_flags.items ≡ map is_good_address l.certs.items) };
 }
 
 impl AddressList {
@@ -45,7 +45,7 @@ impl AddressList {
     {
         AddressList {
             certs: Vec::new(alloc),
-            goods: Vec::new(alloc),
+            good_flags: Vec::new(alloc),
         }
     }
 
@@ -99,7 +99,7 @@ impl AddressList {
     pub fn find(&self, exporter: &PubKey, now: u64) -> Option<&Address>
         ensures { option_copied result ≡ find_address self.now.items now exporter.now }
     {
-        first_telling(self.certs.as_slice(), self.goods.as_slice(), exporter, now)
+        first_telling(self.certs.as_slice(), self.good_flags.as_slice(), exporter, now)
     }
 
     /// Makes room for one address certificate. After `AllocError`, which says that memory ran out, the certificates are the
@@ -111,7 +111,7 @@ impl AddressList {
         ensures kept { self.old.spare ≤ self.new.spare }
     {
         self.certs.reserve(1)?;
-        self.goods.reserve(1)
+        self.good_flags.reserve(1)
     }
 
     /// Adds an address certificate in the ranges of the format behind the others. One that is there already changes nothing.
@@ -149,7 +149,7 @@ impl AddressList {
     {
         let good = cert.is_good();
         self.certs.push_reserved(cert);
-        self.goods.push_reserved(good);
+        self.good_flags.push_reserved(good);
     }
 
     /// An equal list. `AllocError` where memory runs out.
@@ -159,7 +159,7 @@ impl AddressList {
         let alloc = *self.certs.allocator();
         Ok(AddressList {
             certs: copies_of(alloc, self.certs.as_slice())?,
-            goods: self.goods.as_slice().to_vec(alloc)?,
+            good_flags: self.good_flags.as_slice().to_vec(alloc)?,
         })
     }
 }
@@ -200,15 +200,15 @@ fn says_where(cert: &Address, good: bool, exporter: &PubKey, now: u64) -> bool
 /// The first certificate that says where the exporter is reached.
 fn first_telling<'a>(
     certs: &'a [Address],
-    goods: &[bool],
+    good_flags: &[bool],
     exporter: &PubKey,
     now: u64,
 ) -> Option<&'a Address>
-    requires { goods.now ≡ map is_good_address certs.now }
+    requires { good_flags.now ≡ map is_good_address certs.now }
     ensures { option_copied result ≡ find_address certs.now now exporter.now }
 {
     for (place, cert) in certs.iter().enumerate() {
-        if says_where(cert, goods[place], exporter, now) {
+        if says_where(cert, good_flags[place], exporter, now) {
             return Some(cert);
         }
     }

@@ -3,7 +3,7 @@
 ghost use Rattle.std.specs.Prelude.{◌≡◌, ◌≤◌, ◌<◌, ◌++◌, [], ◌∷◌, ◌↔◌, ◌≢◌, false, length, map, slice_get, option_copied, vec_items, Err, IfOk, IsOk, OnOk, OnErr, IfSome, IsTrue, IsErrOf};
 ghost use Rattle.ds_cert.specs.declared.delegation.Delegation.{Delegation};
 ghost use Rattle.ds_cert.specs.Good.{is_good_delegation};
-ghost use Rattle.ds_cert.specs.Kept.{is_kept as is_kept_in, same_delegation, with_delegation};
+ghost use Rattle.ds_cert.specs.NoDoubles.{is_kept as is_kept_in, same_delegation, with_delegation};
 ghost use Rattle.ds_cert.specs.Ranges.{DelegationRange};
 ghost use Rattle.ds_chain.specs.Stored.{IsStore};
 
@@ -19,7 +19,7 @@ use std::marker::Model;
 #[derive(Debug, Drop)]
 pub struct CertList {
     certs: Vec<Delegation>,
-    goods: Vec<bool>,
+    good_flags: Vec<bool>,
 }
 
 impl Model for CertList {
@@ -31,9 +31,9 @@ impl Model for CertList {
 
     ghost Value = { Stored Delegation };
 
-    ghost view = { λ l. record { items = l.certs.items; spare = min 1 (min (vec_capacity l.certs - vec_len l.certs) (vec_capacity l.goods - vec_len l.goods)) } };
+    ghost view = { λ l. record { items = l.certs.items; spare = min 1 (min (vec_capacity l.certs - vec_len l.certs) (vec_capacity l.good_flags - vec_len l.good_flags)) } };
 
-    ghost invariant = { λ l. IsStore 256 DelegationRange l.certs.items × (l.goods.items ≡ map is_good_delegation l.certs.items) };
+    ghost invariant = { λ l. IsStore 256 DelegationRange l.certs.items × (l.good_flags.items ≡ map is_good_delegation l.certs.items) };
 }
 
 impl CertList {
@@ -43,7 +43,7 @@ impl CertList {
     {
         CertList {
             certs: Vec::new(alloc),
-            goods: Vec::new(alloc),
+            good_flags: Vec::new(alloc),
         }
     }
 
@@ -94,10 +94,10 @@ impl CertList {
     }
 
     /// Of each delegation, in order, whether it is good. It verifies nothing.
-    pub(crate) fn goods(&self) -> &[bool]
+    pub(crate) fn good_flags(&self) -> &[bool]
         ensures { result.now ≡ map is_good_delegation self.now.items }
     {
-        self.goods.as_slice()
+        self.good_flags.as_slice()
     }
 
     /// Makes room for one delegation. After `AllocError`, which says that memory ran out, the delegations are the same.
@@ -108,7 +108,7 @@ impl CertList {
         ensures kept { self.old.spare ≤ self.new.spare }
     {
         self.certs.reserve(1)?;
-        self.goods.reserve(1)
+        self.good_flags.reserve(1)
     }
 
     /// Adds a delegation in the ranges of the format behind the others. One that is there already changes nothing.
@@ -146,7 +146,7 @@ impl CertList {
     {
         let good = cert.is_good();
         self.certs.push_reserved(cert);
-        self.goods.push_reserved(good);
+        self.good_flags.push_reserved(good);
     }
 
     /// An equal list. `AllocError` where memory runs out.
@@ -156,7 +156,7 @@ impl CertList {
         let alloc = *self.certs.allocator();
         Ok(CertList {
             certs: copies_of(alloc, self.certs.as_slice())?,
-            goods: self.goods.as_slice().to_vec(alloc)?,
+            good_flags: self.good_flags.as_slice().to_vec(alloc)?,
         })
     }
 }

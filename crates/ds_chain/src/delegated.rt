@@ -7,8 +7,8 @@ ghost use Rattle.ds_chain.specs.Delegated.{chain_to, hop_of, hops_of_list, key_h
 
 use crate::cert_list::CertList;
 use crate::chain::Chain;
-use crate::hop::Hop;
-use crate::hop_list::HopList;
+use crate::edge::Edge;
+use crate::edge_list::EdgeList;
 use ds_cert::Delegation;
 use ds_label::{Category, PubKey};
 use std::alloc::{AllocError, Global};
@@ -28,10 +28,10 @@ pub fn search(
     ensures holds { IfOk result (λ answer. IsSome answer ↔ IsTrue (key_holds (list.now.items ++ extra.now.items) now category.now key.now)) }
     ensures shortest { IfOk result (λ answer. IfSome answer (λ chain. IsShortestChain (hops_of_list now category.now (list.now.items ++ extra.now.items)) category.now.creator chain key.now)) }
 {
-    let mut hops = HopList::new(alloc);
-    add_hops(&mut hops, list.as_slice(), list.goods(), now, category)?;
-    add_hops(&mut hops, extra.as_slice(), extra.goods(), now, category)?;
-    hops.search(alloc, &category.creator, key)
+    let mut edges = EdgeList::new(alloc);
+    add_hops(&mut edges, list.as_slice(), list.good_flags(), now, category)?;
+    add_hops(&mut edges, extra.as_slice(), extra.good_flags(), now, category)?;
+    edges.search(alloc, &category.creator, key)
 }
 
 /// Whether the key holds the category at the moment `now`, by the delegations of both lists. `AllocError` where memory runs out.
@@ -48,13 +48,13 @@ pub fn holds(
     Ok(search(alloc, list, extra, now, category, key)?.is_some())
 }
 
-/// The hop of a delegation of which it is known whether it is good, where it counts.
-fn counted(cert: &Delegation, good: bool, now: u64, category: &Category) -> Option<Hop<PubKey>>
+/// The edge of a delegation of which it is known whether it is good, where it counts.
+fn counted(cert: &Delegation, good: bool, now: u64, category: &Category) -> Option<Edge<PubKey>>
     requires { good ≡ is_good_delegation cert.now }
     ensures { result ≡ hop_of now category.now cert.now }
 {
     if cert.category == *category && cert.valid_at(now) && good {
-        return Some(Hop {
+        return Some(Edge {
             by: cert.by,
             to: cert.to,
         });
@@ -64,19 +64,19 @@ fn counted(cert: &Delegation, good: bool, now: u64, category: &Category) -> Opti
 
 /// Goes on by the places of delegations of which it is known whether they are good.
 fn add_hops(
-    hops: &mut HopList,
+    edges: &mut EdgeList,
     certs: &[Delegation],
-    goods: &[bool],
+    good_flags: &[bool],
     now: u64,
     category: &Category,
 ) -> Result<(), AllocError>
-    requires { goods.now ≡ map is_good_delegation certs.now }
-    ensures { OnOk result (hops.new ≡ hops.old ++ hops_of_list now category.now certs.now) }
+    requires { good_flags.now ≡ map is_good_delegation certs.now }
+    ensures { OnOk result (edges.new ≡ edges.old ++ hops_of_list now category.now certs.now) }
 {
     for (place, cert) in certs.iter().enumerate() {
-        match counted(cert, goods[place], now, category) {
-            Some(hop) => hops.add(&hop.by, &hop.to)?,
-            None => hops.skip()?,
+        match counted(cert, good_flags[place], now, category) {
+            Some(edge) => edges.add(&edge.by, &edge.to)?,
+            None => edges.skip()?,
         }
     }
     Ok(())

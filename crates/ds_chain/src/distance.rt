@@ -2,33 +2,33 @@ ghost use Rattle.std.specs.Prelude.{◌≡◌, ℕ, ◌+◌, ◌<◌, ◌≤◌,
 ghost use Rattle.std.specs.Bool.{OnTrue, OnFalse};
 ghost use Rattle.ds_chain.specs.Distance.{AreBelow, AreKnown, AreSettled, IsNew};
 
-use crate::hop::Hop;
+use crate::edge::Edge;
 use std::alloc::{AllocError, Global};
 
-/// Whether the hop leads to a key at this level from a key whose distance isn't known.
-fn is_new(steps: &[Option<u32>], hop: &Hop<usize>, level: u32) -> bool
-    requires by { hop.now.by < length steps.now }
-    requires to { hop.now.to < length steps.now }
-    ensures { IsTrue result ↔ IsNew steps.now hop.now level }
+/// Whether the edge leads to a key at this level from a key whose distance isn't known.
+fn is_new(distances: &[Option<u32>], edge: &Edge<usize>, level: u32) -> bool
+    requires by { edge.now.by < length distances.now }
+    requires to { edge.now.to < length distances.now }
+    ensures { IsTrue result ↔ IsNew distances.now edge.now level }
 {
-    match (steps[hop.to], steps[hop.by]) {
+    match (distances[edge.to], distances[edge.by]) {
         (Some(n), None) => n == level,
         _ => false,
     }
 }
 
 /// Writes down the distance of each key at the next level. Whether there is one.
-fn add_level(hops: &[Option<Hop<usize>>], steps: &mut [Option<u32>], level: u32) -> bool
+fn add_level(edges: &[Option<Edge<usize>>], distances: &mut [Option<u32>], level: u32) -> bool
     requires level { level + 1 < 2 ^ 32 }
-    requires hops { AreBelow (length steps.old) hops.now }
-    ensures known { (key : ℕ) → AreKnown hops.now key level steps.old → AreKnown hops.now key (level + 1) steps.new }
-    ensures none { OnFalse result (steps.new ≡ steps.old) }
+    requires edges { AreBelow (length distances.old) edges.now }
+    ensures known { (key : ℕ) → AreKnown edges.now key level distances.old → AreKnown edges.now key (level + 1) distances.new }
+    ensures none { OnFalse result (distances.new ≡ distances.old) }
 {
     let mut found = false;
-    for entry in hops {
-        if let Some(hop) = entry {
-            if is_new(steps, hop, level) {
-                steps[hop.by] = Some(level + 1);
+    for entry in edges {
+        if let Some(edge) = entry {
+            if is_new(distances, edge, level) {
+                distances[edge.by] = Some(level + 1);
                 found = true;
             }
         }
@@ -37,33 +37,33 @@ fn add_level(hops: &[Option<Hop<usize>>], steps: &mut [Option<u32>], level: u32)
 }
 
 /// Goes on from the key alone to the distance of each key that a chain leads from.
-fn settle(hops: &[Option<Hop<usize>>], steps: &mut [Option<u32>])
-    requires few { length hops.now < 2 ^ 32 }
-    requires hops { AreBelow (length steps.old) hops.now }
-    ensures settled { (key : ℕ) → AreKnown hops.now key 0 steps.old → AreSettled hops.now key steps.new }
+fn settle(edges: &[Option<Edge<usize>>], distances: &mut [Option<u32>])
+    requires few { length edges.now < 2 ^ 32 }
+    requires edges { AreBelow (length distances.old) edges.now }
+    ensures settled { (key : ℕ) → AreKnown edges.now key 0 distances.old → AreSettled edges.now key distances.new }
 {
-    for level in 0..hops.len() as u32 {
-        if !add_level(hops, steps, level) {
+    for level in 0..edges.len() as u32 {
+        if !add_level(edges, distances, level) {
             return;
         }
     }
 }
 
 /// The distance of each of `count` keys from `key`.
-pub(crate) fn distances(
+pub(crate) fn distances_to(
     alloc: Global,
-    hops: &[Option<Hop<usize>>],
+    edges: &[Option<Edge<usize>>],
     count: usize,
     key: usize,
 ) -> Result<Vec<Option<u32>>, AllocError>
-    requires few { length hops.now < 2 ^ 32 }
-    requires hops { AreBelow count hops.now }
+    requires few { length edges.now < 2 ^ 32 }
+    requires edges { AreBelow count edges.now }
     requires key { key < count }
-    ensures settled { IfOk result (λ steps. AreSettled hops.now key steps.items) }
-    ensures count { IfOk result (λ steps. length steps.items ≡ count) }
+    ensures settled { IfOk result (λ distances. AreSettled edges.now key distances.items) }
+    ensures count { IfOk result (λ distances. length distances.items ≡ count) }
 {
-    let mut steps = vec![in alloc; None; count]?;
-    steps[key] = Some(0);
-    settle(hops, &mut steps);
-    Ok(steps)
+    let mut distances = vec![in alloc; None; count]?;
+    distances[key] = Some(0);
+    settle(edges, &mut distances);
+    Ok(distances)
 }

@@ -1,6 +1,6 @@
 ghost use Rattle.std.specs.Prelude.{◌≡◌, ◌<◌, ◌↔◌, ℕ, Bool, List, [], ◌++◌, Option, Some, true, All, Contains, IsTrue, is_some, length};
-ghost use Rattle.ds_chain.specs.declared.hop.Hop.{Hop};
-ghost use Rattle.ds_chain.specs.Chain.{IsHop, LeadsTo, IsShortestChain};
+ghost use Rattle.ds_chain.specs.declared.edge.Edge.{Edge};
+ghost use Rattle.ds_chain.specs.Chain.{IsEdge, LeadsTo, IsShortestChain};
 ghost use Rattle.ds_chain.specs.Keys.{IsSameness};
 ghost use Rattle.ds_chain.specs.Holding.{holds};
 ghost use Rattle.ds_chain.specs.Shortest.{shortest_chain};
@@ -13,41 +13,41 @@ ghost use Rattle.ds_cert.specs.Good.{is_good_delegation};
 /// What holds of every list of certificates, every creator and every key: the laws of chains.
 pub fn chain_laws<K>()
     // A key has at most one shortest chain.
-    ensures unique { (hops : List (Option (Hop K))) (creator key : K) (places others : List ℕ) →
-        IsShortestChain hops creator places key → IsShortestChain hops creator others key → places ≡ others }
+    ensures unique { (edges : List (Option (Edge K))) (creator key : K) (places others : List ℕ) →
+        IsShortestChain edges creator places key → IsShortestChain edges creator others key → places ≡ others }
     // It has one exactly where it holds.
-    ensures exists { (same : K → K → Bool) → IsSameness same → (hops : List (Option (Hop K))) (creator key : K) →
-        IsTrue (holds same hops creator key) ↔ ((places : List ℕ) × IsShortestChain hops creator places key) }
+    ensures exists { (same : K → K → Bool) → IsSameness same → (edges : List (Option (Edge K))) (creator key : K) →
+        IsTrue (holds same edges creator key) ↔ ((places : List ℕ) × IsShortestChain edges creator places key) }
     // A key holds exactly where a chain leads to it.
-    ensures led { (same : K → K → Bool) → IsSameness same → (hops : List (Option (Hop K))) (creator key : K) →
-        IsTrue (holds same hops creator key) ↔ ((places : List ℕ) × LeadsTo hops creator places key) }
+    ensures led { (same : K → K → Bool) → IsSameness same → (edges : List (Option (Edge K))) (creator key : K) →
+        IsTrue (holds same edges creator key) ↔ ((places : List ℕ) × LeadsTo edges creator places key) }
     // The function gives the shortest chain, and none exactly where the key does not hold.
-    ensures given { (same : K → K → Bool) → IsSameness same → (hops : List (Option (Hop K))) (creator key : K) (places : List ℕ) →
-        (shortest_chain same hops creator key ≡ Some places) ↔ IsShortestChain hops creator places key }
-    ensures none { (same : K → K → Bool) → IsSameness same → (hops : List (Option (Hop K))) (creator key : K) →
-        holds same hops creator key ≡ is_some (shortest_chain same hops creator key) }
+    ensures given { (same : K → K → Bool) → IsSameness same → (edges : List (Option (Edge K))) (creator key : K) (places : List ℕ) →
+        (shortest_chain same edges creator key ≡ Some places) ↔ IsShortestChain edges creator places key }
+    ensures none { (same : K → K → Bool) → IsSameness same → (edges : List (Option (Edge K))) (creator key : K) →
+        holds same edges creator key ≡ is_some (shortest_chain same edges creator key) }
     // The creator's own chain is empty.
-    ensures own { (hops : List (Option (Hop K))) (creator : K) → IsShortestChain hops creator [] creator }
+    ensures own { (edges : List (Option (Edge K))) (creator : K) → IsShortestChain edges creator [] creator }
     // A chain's places are places of the list.
-    ensures within { (hops : List (Option (Hop K))) (creator key : K) (places : List ℕ) →
-        LeadsTo hops creator places key → All (λ place. place < length hops) places }
+    ensures within { (edges : List (Option (Edge K))) (creator key : K) (places : List ℕ) →
+        LeadsTo edges creator places key → All (λ place. place < length edges) places }
     // More certificates leave each holder a holder.
-    ensures kept { (same : K → K → Bool) → IsSameness same → (hops more : List (Option (Hop K))) (creator key : K) →
-        IsTrue (holds same hops creator key) → IsTrue (holds same (hops ++ more) creator key) }
+    ensures kept { (same : K → K → Bool) → IsSameness same → (edges more : List (Option (Edge K))) (creator key : K) →
+        IsTrue (holds same edges creator key) → IsTrue (holds same (edges ++ more) creator key) }
     // A set that has the creator, and with the signer of each certificate that counts also the key that it names, has each
     // key that holds.
-    ensures closed { (same : K → K → Bool) → IsSameness same → (hops : List (Option (Hop K))) (creator : K) (inside : K → Bool) →
+    ensures closed { (same : K → K → Bool) → IsSameness same → (edges : List (Option (Edge K))) (creator : K) (inside : K → Bool) →
         IsTrue (inside creator) →
-        ((place : ℕ) (by to : K) → IsHop hops place by to → IsTrue (inside by) → IsTrue (inside to)) →
-        (key : K) → IsTrue (holds same hops creator key) → IsTrue (inside key) }
+        ((place : ℕ) (by to : K) → IsEdge edges place by to → IsTrue (inside by) → IsTrue (inside to)) →
+        (key : K) → IsTrue (holds same edges creator key) → IsTrue (inside key) }
 {}
 
 /// What holds of every list of delegations, every moment, category and key: who holds and by which chain is determined by these
 /// alone, and more is known of both.
 pub fn delegation_laws()
     // A certificate that counts stands at a place exactly where a delegation for the category, valid and good, does.
-    ensures hop { (certs : List Delegation) (moment : ℕ) (category : Category) (place : ℕ) (by to : PubKey) →
-        IsHop (hops_of_list moment category certs) place by to ↔ Delegates certs moment category place by to }
+    ensures edge { (certs : List Delegation) (moment : ℕ) (category : Category) (place : ℕ) (by to : PubKey) →
+        IsEdge (hops_of_list moment category certs) place by to ↔ Delegates certs moment category place by to }
     // The creator holds, and its chain is empty.
     ensures creator { (certs : List Delegation) (moment : ℕ) (category : Category) → chain_to certs moment category category.creator ≡ Some [] }
     // A key holds exactly where there is a chain.

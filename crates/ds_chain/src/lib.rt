@@ -10,8 +10,8 @@ mod chain;
 mod delegated;
 mod distance;
 mod fault;
-mod hop;
-mod hop_list;
+mod edge;
+mod edge_list;
 mod key_search;
 mod laws;
 mod numbers;
@@ -22,8 +22,8 @@ pub use cert_list::CertList;
 pub use chain::Chain;
 pub use delegated::{holds, search};
 pub use fault::{ADDRESS_LIMIT, CERT_LIMIT, ListFault};
-pub use hop::Hop;
-pub use hop_list::HopList;
+pub use edge::Edge;
+pub use edge_list::EdgeList;
 pub use laws::{chain_laws, delegation_laws};
 
 #[cfg(test)]

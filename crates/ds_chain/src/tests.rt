@@ -1,6 +1,6 @@
 mod kept;
 
-use crate::HopList;
+use crate::EdgeList;
 use ds_label::PubKey;
 use std::alloc::{AllocError, Global};
 use std::test::Fail;
@@ -17,8 +17,8 @@ fn key(name: u8) -> PubKey {
     PubKey([name; 56])
 }
 
-fn list_of(alloc: Global, certificates: &[Option<(u8, u8)>]) -> Result<HopList, AllocError> {
-    let mut list = HopList::new(alloc);
+fn list_of(alloc: Global, certificates: &[Option<(u8, u8)>]) -> Result<EdgeList, AllocError> {
+    let mut list = EdgeList::new(alloc);
     for certificate in certificates {
         match certificate {
             Some((by, to)) => list.add(&key(*by), &key(*to))?,
@@ -145,7 +145,7 @@ fn the_chain_is_the_shortest_and_then_the_least(rt: HostRuntime) -> Result<(), F
 
 #[test]
 fn long_chains_are_found(rt: HostRuntime) -> Result<(), Fail> {
-    let mut list = HopList::new(rt.alloc());
+    let mut list = EdgeList::new(rt.alloc());
     for name in 0..200u8 {
         list.add(&key(name), &key(name + 1))?;
     }

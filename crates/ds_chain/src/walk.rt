@@ -1,46 +1,46 @@
 ghost use Rattle.std.specs.Prelude.{◌≡◌, ℕ, ◌<◌, ◌^◌, ◌↔◌, length, IsTrue, IfOk, IfSome, IfNone, Some, None, slice_index_or, vec_items};
-ghost use Rattle.ds_chain.specs.Chain.{IsHop, IsShortestChain};
+ghost use Rattle.ds_chain.specs.Chain.{IsEdge, IsShortestChain};
 ghost use Rattle.ds_chain.specs.Distance.{AreBelow, AreSettled, IsNearer, IsFirstNearer};
 
-use crate::hop::Hop;
+use crate::edge::Edge;
 use std::alloc::{AllocError, Global};
 
-/// A hop of a chain: where its certificate stands, and the key that this names.
+/// A edge of a chain: where its certificate stands, and the key that this names.
 #[derive(Clone, Copy)]
 struct Step {
     place: u32,
     to: usize,
 }
 
-/// Whether the hop leads from the key `by` to one that `left` more hops lead from.
-fn is_nearer(steps: &[Option<u32>], hop: &Hop<usize>, by: usize, left: u32) -> bool
-    requires { hop.now.to < length steps.now }
-    ensures { IsTrue result ↔ IsNearer steps.now by left hop.now }
+/// Whether the edge leads from the key `by` to one that `left` more edges lead from.
+fn is_nearer(distances: &[Option<u32>], edge: &Edge<usize>, by: usize, left: u32) -> bool
+    requires { edge.now.to < length distances.now }
+    ensures { IsTrue result ↔ IsNearer distances.now by left edge.now }
 {
-    match steps[hop.to] {
-        Some(n) => n == left && hop.by == by,
+    match distances[edge.to] {
+        Some(n) => n == left && edge.by == by,
         None => false,
     }
 }
 
-/// The first hop that leads from the key `by` to one that `left` more hops lead from.
+/// The first edge that leads from the key `by` to one that `left` more edges lead from.
 fn first_nearer(
-    hops: &[Option<Hop<usize>>],
-    steps: &[Option<u32>],
+    edges: &[Option<Edge<usize>>],
+    distances: &[Option<u32>],
     by: usize,
     left: u32,
 ) -> Option<Step>
-    requires few { length hops.now < 2 ^ 32 }
-    requires hops { AreBelow (length steps.now) hops.now }
-    ensures found { IfSome result (λ step. IsFirstNearer hops.now steps.now by left step.place step.to) }
-    ensures none { IfNone result ((place next : ℕ) → IsHop hops.now place by next → slice_index_or steps.now next None ≡ Some left → ⊥) }
+    requires few { length edges.now < 2 ^ 32 }
+    requires edges { AreBelow (length distances.now) edges.now }
+    ensures found { IfSome result (λ step. IsFirstNearer edges.now distances.now by left step.place step.to) }
+    ensures none { IfNone result ((place next : ℕ) → IsEdge edges.now place by next → slice_index_or distances.now next None ≡ Some left → ⊥) }
 {
-    for (place, entry) in hops.iter().enumerate() {
-        if let Some(hop) = entry {
-            if is_nearer(steps, hop, by, left) {
+    for (place, entry) in edges.iter().enumerate() {
+        if let Some(edge) = entry {
+            if is_nearer(distances, edge, by, left) {
                 return Some(Step {
                     place: place as u32,
-                    to: hop.to,
+                    to: edge.to,
                 });
             }
         }
@@ -48,25 +48,25 @@ fn first_nearer(
     None
 }
 
-/// The shortest chain, of `count` hops, from the creator's key to the key that the distances lead to.
+/// The shortest chain, of `count` edges, from the creator's key to the key that the distances lead to.
 pub(crate) fn walk(
     alloc: Global,
-    hops: &[Option<Hop<usize>>],
-    steps: &[Option<u32>],
+    edges: &[Option<Edge<usize>>],
+    distances: &[Option<u32>],
     creator: usize,
     key: usize,
     count: u32,
 ) -> Result<Vec<u32>, AllocError>
-    requires few { length hops.now < 2 ^ 32 }
-    requires hops { AreBelow (length steps.now) hops.now }
-    requires settled { AreSettled hops.now key steps.now }
-    requires count { slice_index_or steps.now creator None ≡ Some count }
-    ensures { IfOk result (λ chain. IsShortestChain hops.now creator chain.items key) }
+    requires few { length edges.now < 2 ^ 32 }
+    requires edges { AreBelow (length distances.now) edges.now }
+    requires settled { AreSettled edges.now key distances.now }
+    requires count { slice_index_or distances.now creator None ≡ Some count }
+    ensures { IfOk result (λ chain. IsShortestChain edges.now creator chain.items key) }
 {
     let mut chain = Vec::new(alloc);
     let mut by = creator;
     for walked in 0..count {
-        let step = first_nearer(hops, steps, by, count - 1 - walked).unwrap();
+        let step = first_nearer(edges, distances, by, count - 1 - walked).unwrap();
         chain.push(step.place)?;
         by = step.to;
     }

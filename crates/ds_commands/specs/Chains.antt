@@ -6,7 +6,7 @@ use Rattle.ds_label.specs.declared.category.PubKey.{PubKey}
 use Rattle.ds_label.specs.declared.category.Category.{Category}
 use Rattle.ds_cert.specs.declared.delegation.Delegation.{Delegation}
 use Rattle.ds_cert.specs.Categories.{category_in}
-use Rattle.ds_cert.specs.Kept.{is_kept}
+use Rattle.ds_cert.specs.NoDoubles.{is_kept}
 use Rattle.ds_cert.specs.Reading.{read_delegation}
 use Rattle.ds_chain.specs.Delegated.{chain_to}
 use Rattle.ds_commands.specs.declared.reply.Reply.{Reply}

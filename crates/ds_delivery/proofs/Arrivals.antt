@@ -7,9 +7,9 @@ use Rattle.ds_model.specs.Scheme.{Scheme}
 use Rattle.ds_model.specs.Plan.{HostPlan, LanePlan, Source, Link, OfLane, lane_plan}
 use Rattle.ds_model.specs.Desk.{Ticked, desk_after}
 use Rattle.ds_model.specs.World.{Process, Waiting, Worker, Conn, Host, World}
-use Rattle.ds_model.specs.Asking.{Ask, Stay, Alone, Put, Admit, TakeFrom, Do, Judge, ask}
-use Rattle.ds_model.specs.LaneWork.{LaneAsk, Wait, Lift, Check, lane_ask, told_lifted, told_checked, with_frame, still_good}
-use Rattle.ds_model.specs.Connecting.{ConnAsk, Quiet, Become, Number, JudgeOne, Hand, arrive}
+use Rattle.ds_model.specs.ProcessStep.{Ask, Waits, Internal, Put, Admit, TakeFrom, PublicAct, AsksJudgement, ask}
+use Rattle.ds_model.specs.WorkerStep.{LaneAsk, WorkerWaits, Lifts, AsksRecheck, lane_ask, lifted_after_reply, checked_after_reply, with_frame, still_good}
+use Rattle.ds_model.specs.ConnectionStep.{ConnAsk, ConnWaits, ConnInternal, AsksInlet, AsksArrival, PutsPassed, arrive}
 use Rattle.ds_model.specs.Step.{perform, step_proc, front_of, perform_lane, step_lane, perform_conn, stream_from, worker_at, stream_of, arrived, ticked}
 use Rattle.ds_model.proofs.Places.{at_here, at_other, at_each}
 use Rattle.ds_delivery.proofs.Lists.{Grows, grows_self, grows_same, take_grows, take_up}
@@ -42,13 +42,13 @@ proc_grows s plan x p None l = grows_self (stream_from (slice_get x.workers l))
 proc_grows s plan x p (Some y) l = go (ask plan p y)
   where
     go : (a : Ask) → Grows (stream_from (slice_get x.workers l)) (stream_from (slice_get (perform s plan x p a).workers l))
-    go Stay = grows_self _
-    go (Alone next) = grows_self _
+    go Waits = grows_self _
+    go (Internal next) = grows_self _
     go (Put b mail next) = grows_self _
     go (Admit j m next) = grows_self _
     go (TakeFrom b r slot) = grows_self _
-    go (Do act r g) = grows_self _
-    go (Judge m) = grows_self _
+    go (PublicAct act r g) = grows_self _
+    go (AsksJudgement m) = grows_self _
 
 frame_grows : (s : Scheme) (plan : LanePlan) (e : Worker) (good : List Waiting) → Grows e.stream (with_frame s plan e good).stream
 frame_grows s plan e [] = grows_self e.stream
@@ -68,16 +68,16 @@ lane_grows s plan x l None = λ j. grows_self (stream_from (slice_get x.workers 
 lane_grows s plan x l (Some e) = go (lane_ask s (lane_plan plan l) e)
   where
     go : (a : LaneAsk) → HostGrows x (perform_lane s plan x l a)
-    go Wait = λ j. grows_self (stream_from (slice_get x.workers j))
-    go Lift = worker_grows (told_lifted (front_of (slice_get x.queues l))) (λ e'. grows_self e'.stream) l x.workers
-    go Check = worker_grows (told_checked s (lane_plan plan l) x.desk) (λ e'. frame_grows s (lane_plan plan l) e' (still_good s x.desk e'.hand)) l x.workers
+    go WorkerWaits = λ j. grows_self (stream_from (slice_get x.workers j))
+    go Lifts = worker_grows (lifted_after_reply (front_of (slice_get x.queues l))) (λ e'. grows_self e'.stream) l x.workers
+    go AsksRecheck = worker_grows (checked_after_reply s (lane_plan plan l) x.desk) (λ e'. frame_grows s (lane_plan plan l) e' (still_good s x.desk e'.hand)) l x.workers
 
 pub conn_grows : (s : Scheme) (plan : HostPlan) (x : Host) (y : Conn) (a : ConnAsk) → HostGrows x (perform_conn s plan x y a).host
-conn_grows s plan x y Quiet l = grows_self _
-conn_grows s plan x y (Become next) l = grows_self _
-conn_grows s plan x y (Number i number fresh stale) l = grows_self _
-conn_grows s plan x y (JudgeOne cert m rest) l = grows_self _
-conn_grows s plan x y (Hand b mail next) l = grows_self _
+conn_grows s plan x y ConnWaits l = grows_self _
+conn_grows s plan x y (ConnInternal next) l = grows_self _
+conn_grows s plan x y (AsksInlet i number fresh stale) l = grows_self _
+conn_grows s plan x y (AsksArrival cert m rest) l = grows_self _
+conn_grows s plan x y (PutsPassed b mail next) l = grows_self _
 
 pub tick_grows : (plan : HostPlan) (t : ℕ) (x : Host) → HostGrows x (ticked plan t x)
 tick_grows plan t x l = go plan.silent

@@ -11,8 +11,8 @@ use Rattle.ds_model.specs.Scheme.{Scheme}
 use Rattle.ds_model.specs.Plan.{HostPlan, LanePlan}
 use Rattle.ds_model.specs.Desk.{Act}
 use Rattle.ds_model.specs.World.{Process, Waiting, Worker}
-use Rattle.ds_model.specs.Asking.{Ask, Stay, Alone, Put, Admit, TakeFrom, Do, Judge, Target, Not, Into, judge_box, box_of, send_rule, send_here, send_away, message_of, take_from, take_rule, relabel, make, publish, ask_outer, ask_inner, queue_at, lane_of, ask_hand, ask}
-use Rattle.ds_model.specs.LaneWork.{LaneAsk, Wait, Lift, Check, lane_ask_hand, lane_ask}
+use Rattle.ds_model.specs.ProcessStep.{Ask, Waits, Internal, Put, Admit, TakeFrom, PublicAct, AsksJudgement, Target, Not, Into, judge_box, box_of, send_rule, send_here, send_away, message_of, take_from, take_rule, relabel, make, publish, ask_outer, ask_inner, queue_at, lane_of, ask_hand, ask}
+use Rattle.ds_model.specs.WorkerStep.{LaneAsk, WorkerWaits, Lifts, AsksRecheck, lane_ask_hand, lane_ask}
 use Rattle.ds_model.proofs.Places.{cond_case}
 
 -- PROCESSES
@@ -39,13 +39,13 @@ pub record SendFacts (plan : HostPlan) (x : Process) (m : Message) : Type 0 wher
   pub sender : send_rule plan x m ≡ None
 
 abbrev pub AskFacts : HostPlan → Process → Ask → Type 0
-AskFacts plan x Stay = Unit {0}
-AskFacts plan x (Alone next) = Keeps x next
+AskFacts plan x Waits = Unit {0}
+AskFacts plan x (Internal next) = Keeps x next
 AskFacts plan x (Put b mail next) = Keeps x next
 AskFacts plan x (Admit l m next) = AdmitFacts plan x l m next
 AskFacts plan x (TakeFrom b reg slot) = Unit {0}
-AskFacts plan x (Do act reg host) = Unit {0}
-AskFacts plan x (Judge m) = SendFacts plan x m
+AskFacts plan x (PublicAct act reg host) = Unit {0}
+AskFacts plan x (AsksJudgement m) = SendFacts plan x m
 
 send_here_facts : (plan : HostPlan) (x : Process) (m : Message) (r : Option Rule) (place : Target) → AskFacts plan x (send_here plan x m r place)
 send_here_facts plan x m (Some r) place = inl refl
@@ -111,13 +111,13 @@ ask_facts plan p x = hand_facts plan p x x.hand refl
 -- LANE WORKERS
 
 abbrev pub LaneFacts : Scheme → LanePlan → Worker → LaneAsk → Type 0
-LaneFacts s plan e Wait = Unit {0}
-LaneFacts s plan e Lift = s.has_leaf plan.signing e.leaf ≡ true
-LaneFacts s plan e Check = e.hand ≢ []
+LaneFacts s plan e WorkerWaits = Unit {0}
+LaneFacts s plan e Lifts = s.has_leaf plan.signing e.leaf ≡ true
+LaneFacts s plan e AsksRecheck = e.hand ≢ []
 
 lane_hand_facts : (s : Scheme) (plan : LanePlan) (e : Worker) (ms : List Waiting) → e.hand ≡ ms → LaneFacts s plan e (lane_ask_hand s plan e ms)
 lane_hand_facts s plan e (m ∷ ms) is = λ none. absurd (let no : [] ≡ m ∷ ms = sym none ∙ is in grind arith)
-lane_hand_facts s plan e [] is = cond_case (LaneFacts s plan e) (s.has_leaf plan.signing e.leaf) Lift Wait (λ has. has) (λ _. tt)
+lane_hand_facts s plan e [] is = cond_case (LaneFacts s plan e) (s.has_leaf plan.signing e.leaf) Lifts WorkerWaits (λ has. has) (λ _. tt)
 
 pub lane_facts : (s : Scheme) (plan : LanePlan) (e : Worker) → LaneFacts s plan e (lane_ask s plan e)
 lane_facts s plan e = lane_hand_facts s plan e e.hand refl

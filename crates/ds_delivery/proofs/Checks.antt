@@ -18,19 +18,19 @@ use Rattle.ds_model.specs.Lists.{at}
 use Rattle.ds_model.specs.FirstRule.{unless, first_rule}
 use Rattle.ds_model.specs.ProcessRules.{mailbox_rule}
 use Rattle.ds_model.specs.Scheme.{Scheme, Framed}
-use Rattle.ds_model.specs.Plan.{HostPlan, LanePlan, Plan, host_plan, wire, box_plan, lane_plan}
+use Rattle.ds_model.specs.Plan.{HostPlan, LanePlan, Plan, host_plan, conn_plan, box_plan, lane_plan}
 use Rattle.ds_model.specs.Mailbox.{PutIn, FoundFull, box_enter, put, oldest, took}
 use Rattle.ds_model.specs.Lane.{Queued, QueueFull, lane_after, admit_entry, admit, front, lifted, frame_limit}
 use Rattle.ds_model.specs.Inlet.{Inlet, Fresh, inlet_after, is_fresh, numbered}
 use Rattle.ds_model.specs.Inlet as entries
 use Rattle.ds_model.specs.Desk.{Desk}
 use Rattle.ds_model.specs.World.{Process, Mail, Mailbox, Waiting, Queue, Worker, LaneLine, QueuedLine, FullLine, FramedLine, DroppedLine, PassLine, DropLine, Conn, Host, World, Passed}
-use Rattle.ds_model.specs.Asking.{Ask, Put, Admit, TakeFrom, Judge, noted, refused, box_of, label_of, Target, Not, Into, target, judge_box, message_of, send_rule, mail_of, send_here, send_away, send, take_rule, take_from, ask_outer, ask_inner, queue_at, ask_hand, ask, told_taken, told_judged}
-use Rattle.ds_model.specs.LaneWork.{Wait, Lift, Check, lane_ask_hand, lane_ask, frame_rule, passes, still_good, told_checked, told_lifted, dropped_line, framed_line, checked_lines, admitted_line}
-use Rattle.ds_model.specs.Connecting.{Quiet, Number, JudgeOne, Hand, peer, inlet_of, fresh_frame, stale_frame, take_frame, frame_from, accept_item, accept_free, accept, put_passed, deliver_to, deliver_from, deliver, target_rule, judge_delivery, told_delivery, passed_of}
+use Rattle.ds_model.specs.ProcessStep.{Ask, Put, Admit, TakeFrom, AsksJudgement, noted, refused, box_of, label_of, Target, Not, Into, target, judge_box, message_of, send_rule, mail_of, send_here, send_away, send, take_rule, take_from, ask_outer, ask_inner, queue_at, ask_hand, ask, taken_after_reply, judged_after_reply}
+use Rattle.ds_model.specs.WorkerStep.{WorkerWaits, Lifts, AsksRecheck, lane_ask_hand, lane_ask, frame_rule, passes, still_good, checked_after_reply, lifted_after_reply, dropped_line, framed_line, checked_lines, admitted_line}
+use Rattle.ds_model.specs.ConnectionStep.{ConnWaits, AsksInlet, AsksArrival, PutsPassed, peer, inlet_of, fresh_frame, stale_frame, take_frame, frame_from, accept_item, accept_free, accept, put_passed, deliver_to, deliver_from, deliver, target_rule, judge_delivery, delivery_after_reply, passed_of}
 use Rattle.ds_model.specs.Step.{Step, Frame, Accept, Deliver, judged, attached, arrived, perform, checked_in, front_of, perform_lane, step_lane, fresh_in, perform_conn, step_conn, with_ends, lined, admitted_lines, oldest_in, step}
 use Rattle.ds_model.proofs.Places.{at_still, some_is}
-use Rattle.ds_delivery.specs.Checked.{By, thing, IsAt, IsOpen, FindsRoom, SendChecked, IsFramed, FrameChecked, ArrivalChecked, BoxChecked, TakeChecked, EachChecked}
+use Rattle.ds_delivery.specs.Checked.{IfRuleFails, thing, IsAt, IsOpen, FindsRoom, SendChecked, IsFramed, FrameChecked, ArrivalChecked, BoxChecked, TakeChecked, EachChecked}
 use Rattle.ds_delivery.proofs.Afters.{changed, host_after, frame_after, accept_after, deliver_after, accept_end, deliver_end}
 use Rattle.ds_delivery.proofs.Lists.{in_none, in_head, in_tail, in_cases, in_filter, filter_in}
 use Rattle.ds_delivery.proofs.Kept.{passes_none}
@@ -44,7 +44,7 @@ box_room s plan w h x after mail b x' there boxes z e = go (nat_lt (length z.wai
     box = ap (λ (q : Option Host). onward q (λ u. slice_get u.boxes b)) there ∙ (ap (λ bs. slice_get bs b) boxes ∙ changed b (put (box_plan (host_plan plan h) b).room mail) x.boxes z e)
 
     go : (c : Bool) → nat_lt (length z.waiting) (box_plan (host_plan plan h) b).room ≡ c →
-        By (unless c BoxFull)
+        IfRuleFails (unless c BoxFull)
         (λ rule. thing after h (λ u. u.boxes) b ≡ Some (record { waiting = z.waiting; entries = z.entries ++ FoundFull mail ∷ [] }))
         (thing after h (λ u. u.boxes) b ≡ Some (record { waiting = z.waiting ++ mail ∷ []; entries = z.entries ++ PutIn mail ∷ [] }))
     go true r = box ∙ ap (λ c. Some (box_enter (if c then PutIn mail else FoundFull mail) z)) r
@@ -73,14 +73,14 @@ module _ (s : Scheme) (plan : Plan) (w : World) where
     -- a send to another host
 
     away_by : (m : Message) → (a b : Option Rule) → send_rule (host_plan plan h) y m ≡ a → judged s (host_plan plan h) x.desk m ≡ b → ask (host_plan plan h) p y ≡ send_away y m (send_rule (host_plan plan h) y m) →
-        By (first_rule (a ∷ b ∷ []))
+        IfRuleFails (first_rule (a ∷ b ∷ []))
         (λ rule. thing (step s plan w (Step h p)) h (λ u. u.procs) p ≡ Some (noted (notes.Refused rule) y))
         (thing (step s plan w (Step h p)) h (λ u. u.procs) p ≡ Some (record y { hand = Some (record m { certs = attached s (host_plan plan h) x.desk m }) }))
     away_by m (Some rule) b sender desk is = is_refused rule (is ∙ ap (send_away y m) sender)
-    away_by m None (Some rule) sender desk is = after_ask (λ (u : Host). u.procs) p (Judge m) (is ∙ ap (send_away y m) sender) (Some (noted (notes.Refused rule) y))
-        (changed p (told_judged m (attached s (host_plan plan h) x.desk m) (judged s (host_plan plan h) x.desk m)) x.procs y acts ∙ ap (λ o. Some (told_judged m (attached s (host_plan plan h) x.desk m) o y)) desk)
-    away_by m None None sender desk is = after_ask (λ (u : Host). u.procs) p (Judge m) (is ∙ ap (send_away y m) sender) (Some (record y { hand = Some (record m { certs = attached s (host_plan plan h) x.desk m }) }))
-        (changed p (told_judged m (attached s (host_plan plan h) x.desk m) (judged s (host_plan plan h) x.desk m)) x.procs y acts ∙ ap (λ o. Some (told_judged m (attached s (host_plan plan h) x.desk m) o y)) desk)
+    away_by m None (Some rule) sender desk is = after_ask (λ (u : Host). u.procs) p (AsksJudgement m) (is ∙ ap (send_away y m) sender) (Some (noted (notes.Refused rule) y))
+        (changed p (judged_after_reply m (attached s (host_plan plan h) x.desk m) (judged s (host_plan plan h) x.desk m)) x.procs y acts ∙ ap (λ o. Some (judged_after_reply m (attached s (host_plan plan h) x.desk m) o y)) desk)
+    away_by m None None sender desk is = after_ask (λ (u : Host). u.procs) p (AsksJudgement m) (is ∙ ap (send_away y m) sender) (Some (record y { hand = Some (record m { certs = attached s (host_plan plan h) x.desk m }) }))
+        (changed p (judged_after_reply m (attached s (host_plan plan h) x.desk m) (judged s (host_plan plan h) x.desk m)) x.procs y acts ∙ ap (λ o. Some (judged_after_reply m (attached s (host_plan plan h) x.desk m) o y)) desk)
 
     -- a send to the own host
 
@@ -96,7 +96,7 @@ module _ (s : Scheme) (plan : Plan) (w : World) where
     )
 
     here_by : (m : Message) → (a : Option Rule) (t : Target) → send_rule (host_plan plan h) y m ≡ a → judge_box (host_plan plan h) m.slot m.label ≡ t → ask (host_plan plan h) p y ≡ send_here (host_plan plan h) y m (send_rule (host_plan plan h) y m) (judge_box (host_plan plan h) m.slot m.label) →
-        By (first_rule (a ∷ target_rule t ∷ []))
+        IfRuleFails (first_rule (a ∷ target_rule t ∷ []))
         (λ rule. thing (step s plan w (Step h p)) h (λ u. u.procs) p ≡ Some (noted (notes.Refused rule) y))
         (PutInto m)
     here_by m (Some rule) t sender box is = is_refused rule (is ∙ ap (λ o. send_here (host_plan plan h) y m o (judge_box (host_plan plan h) m.slot m.label)) sender)
@@ -114,17 +114,17 @@ module _ (s : Scheme) (plan : Plan) (w : World) where
     -- a take
 
     take_by : (reg slot : ℕ) (o : Option ℕ) (r : Option Rule) → box_of (host_plan plan h) slot ≡ o → take_rule (host_plan plan h) p y o ≡ r → ask (host_plan plan h) p y ≡ take_from y reg slot o r →
-        By r
+        IfRuleFails r
         (λ rule. thing (step s plan w (Step h p)) h (λ u. u.procs) p ≡ Some (noted (notes.Refused rule) y))
         ((b : ℕ) × (box_of (host_plan plan h) slot ≡ Some b) × ((z : Mailbox) → slice_get x.boxes b ≡ Some z →
-        (thing (step s plan w (Step h p)) h (λ u. u.procs) p ≡ Some (told_taken reg slot (oldest z) y)) × (thing (step s plan w (Step h p)) h (λ u. u.boxes) b ≡ Some (took z))))
+        (thing (step s plan w (Step h p)) h (λ u. u.procs) p ≡ Some (taken_after_reply reg slot (oldest z) y)) × (thing (step s plan w (Step h p)) h (λ u. u.boxes) b ≡ Some (took z))))
     take_by reg slot o (Some rule) box r is = is_refused rule is
     take_by reg slot None None box r is = absurd (grind arith)
     take_by reg slot (Some b) None box r is = (
       b,
       box,
       λ z e. (
-        after_ask (λ (u : Host). u.procs) p (TakeFrom b reg slot) is (Some (told_taken reg slot (oldest z) y)) (changed p (told_taken reg slot (oldest_in (slice_get x.boxes b))) x.procs y acts ∙ ap (λ q. Some (told_taken reg slot (oldest_in q) y)) e),
+        after_ask (λ (u : Host). u.procs) p (TakeFrom b reg slot) is (Some (taken_after_reply reg slot (oldest z) y)) (changed p (taken_after_reply reg slot (oldest_in (slice_get x.boxes b))) x.procs y acts ∙ ap (λ q. Some (taken_after_reply reg slot (oldest_in q) y)) e),
         after_ask (λ (u : Host). u.boxes) b (TakeFrom b reg slot) is (Some (took z)) (changed b took x.boxes z e),
       ),
     )
@@ -132,7 +132,7 @@ module _ (s : Scheme) (plan : Plan) (w : World) where
     -- a judged message onto its lane
 
     queue_by : (l : ℕ) (m : Message) (q : Queue) (log : List LaneLine) → ask (host_plan plan h) p y ≡ Admit l m (noted notes.Sent (record y { hand = None })) → slice_get x.queues l ≡ Some q → slice_get x.logs l ≡ Some log → (c : Bool) → nat_lt (length q) (lane_plan (host_plan plan h) l).room ≡ c →
-        By (unless c LaneFull)
+        IfRuleFails (unless c LaneFull)
         (λ rule. (thing (step s plan w (Step h p)) h (λ u. u.queues) l ≡ Some q) × (thing (step s plan w (Step h p)) h (λ u. u.logs) l ≡ Some (log ++ FullLine (record { sender = p; message = m }) ∷ [])))
         ((thing (step s plan w (Step h p)) h (λ u. u.queues) l ≡ Some (q ++ record { sender = p; message = m } ∷ [])) × (thing (step s plan w (Step h p)) h (λ u. u.logs) l ≡ Some (log ++ QueuedLine (record { sender = p; message = m }) ∷ [])))
     queue_by l m q log is waits prints = go
@@ -145,7 +145,7 @@ module _ (s : Scheme) (plan : Plan) (w : World) where
             (changed l (lined (admitted_lines (lane_plan (host_plan plan h) l).room (record { sender = p; message = m }) (slice_get x.queues l))) x.logs log prints ∙ ap (λ o. Some (log ++ admitted_lines (lane_plan (host_plan plan h) l).room (record { sender = p; message = m }) o)) waits)
 
         go : (c : Bool) → nat_lt (length q) (lane_plan (host_plan plan h) l).room ≡ c →
-            By (unless c LaneFull)
+            IfRuleFails (unless c LaneFull)
             (λ rule. (thing (step s plan w (Step h p)) h (λ u. u.queues) l ≡ Some q) × (thing (step s plan w (Step h p)) h (λ u. u.logs) l ≡ Some (log ++ FullLine (record { sender = p; message = m }) ∷ [])))
             ((thing (step s plan w (Step h p)) h (λ u. u.queues) l ≡ Some (q ++ record { sender = p; message = m } ∷ [])) × (thing (step s plan w (Step h p)) h (λ u. u.logs) l ≡ Some (log ++ QueuedLine (record { sender = p; message = m }) ∷ [])))
         go true r = (
@@ -180,7 +180,7 @@ module _ (s : Scheme) (plan : Plan) (w : World) where
 
   -- FRAMING
 
-  checks : (lane : LanePlan) (e : Worker) (m : Waiting) (others : List Waiting) → e.hand ≡ m ∷ others → lane_ask s lane e ≡ Check
+  checks : (lane : LanePlan) (e : Worker) (m : Waiting) (others : List Waiting) → e.hand ≡ m ∷ others → lane_ask s lane e ≡ AsksRecheck
   checks lane e m others hand = ap (lane_ask_hand s lane e) hand
 
   -- the line of a message that is dropped
@@ -225,7 +225,7 @@ module _ (s : Scheme) (plan : Plan) (w : World) where
       go (inl e) = grind arith
       go (inr t) = in_none _ t
 
-  each_framed : (d : Desk) (e : Worker) (v : Waiting) → Contains e.hand v → (r : Option Rule) → frame_rule s d v ≡ r → By r (λ rule. Contains (checked_lines s d e) (line_for rule v)) (Contains (still_good s d e.hand) v)
+  each_framed : (d : Desk) (e : Worker) (v : Waiting) → Contains e.hand v → (r : Option Rule) → frame_rule s d v ≡ r → IfRuleFails r (λ rule. Contains (checked_lines s d e) (line_for rule v)) (Contains (still_good s d e.hand) v)
   each_framed d e v c (Some rule) r = Contains-append_left (flat_map (λ u. dropped_line u (frame_rule s d u)) e.hand) (framed_line e.leaf (still_good s d e.hand)) (line_for rule v) (dropped_in d e.hand v rule c r)
   each_framed d e v c None r = filter_in (λ u. passes (frame_rule s d u)) e.hand v c (ap passes r)
 
@@ -233,15 +233,15 @@ module _ (s : Scheme) (plan : Plan) (w : World) where
   frames h l x e m others log stands works hand prints = record {
     framed = still_good s x.desk e.hand;
     lines = checked_lines s x.desk e;
-    worker = ap (λ (q : Option Host). onward q (λ u. slice_get u.workers l)) after ∙ changed l (told_checked s (lane_plan (host_plan plan h) l) x.desk) x.workers e works;
+    worker = ap (λ (q : Option Host). onward q (λ u. slice_get u.workers l)) after ∙ changed l (checked_after_reply s (lane_plan (host_plan plan h) l) x.desk) x.workers e works;
     log_after = ap (λ (q : Option Host). onward q (λ u. slice_get u.logs l)) after ∙ (changed l (lined (checked_in s x.desk (slice_get x.workers l))) x.logs log prints ∙ ap (λ o. Some (log ++ checked_in s x.desk o)) works);
     each = λ v c. each_framed x.desk e v c (frame_rule s x.desk v) refl;
     only = λ v c. let g : Contains e.hand v × (passes (frame_rule s x.desk v) ≡ true) = in_filter (λ u. passes (frame_rule s x.desk u)) e.hand v c in (g.0, passes_none (frame_rule s x.desk v) g.1);
     no_more = λ rule sender slot c. no_more rule sender slot (Contains-append_cases (flat_map (λ u. dropped_line u (frame_rule s x.desk u)) e.hand) (framed_line e.leaf (still_good s x.desk e.hand)) (DroppedLine rule sender slot) c);
   }
     where
-      after : slice_get (step s plan w (Frame h l)).hosts h ≡ Some (perform_lane s (host_plan plan h) x l Check)
-      after = frame_after s plan w h l x e Check stands works (checks (lane_plan (host_plan plan h) l) e m others hand)
+      after : slice_get (step s plan w (Frame h l)).hosts h ≡ Some (perform_lane s (host_plan plan h) x l AsksRecheck)
+      after = frame_after s plan w h l x e AsksRecheck stands works (checks (lane_plan (host_plan plan h) l) e m others hand)
 
       no_more : (rule : Rule) (sender slot : ℕ) → Contains (flat_map (λ u. dropped_line u (frame_rule s x.desk u)) e.hand) (DroppedLine rule sender slot) ⊎ Contains (framed_line e.leaf (still_good s x.desk e.hand)) (DroppedLine rule sender slot) → Dropped x.desk e.hand rule sender slot
       no_more rule sender slot (inl c) = in_dropped x.desk e.hand rule sender slot c
@@ -250,8 +250,8 @@ module _ (s : Scheme) (plan : Plan) (w : World) where
   waits : (h l : ℕ) (x : Host) (e : Worker) → slice_get w.hosts h ≡ Some x → slice_get x.workers l ≡ Some e → e.hand ≡ [] → s.has_leaf (lane_plan (host_plan plan h) l).signing e.leaf ≡ false → step s plan w (Frame h l) ≡ w
   waits h l x e stands works hand spent = ap (λ hs. record { hosts = hs; conns = w.conns }) (at_still h (λ x'. step_lane s (host_plan plan h) x' l (slice_get x'.workers l)) w.hosts still)
     where
-      asks : lane_ask s (lane_plan (host_plan plan h) l) e ≡ Wait
-      asks = ap (lane_ask_hand s (lane_plan (host_plan plan h) l) e) hand ∙ ap (λ b. cond b Lift Wait) spent
+      asks : lane_ask s (lane_plan (host_plan plan h) l) e ≡ WorkerWaits
+      asks = ap (lane_ask_hand s (lane_plan (host_plan plan h) l) e) hand ∙ ap (λ b. cond b Lifts WorkerWaits) spent
 
       still : (x' : Host) → slice_get w.hosts h ≡ Some x' → step_lane s (host_plan plan h) x' l (slice_get x'.workers l) ≡ x'
       still x' there = subst (λ u. step_lane s (host_plan plan h) u l (slice_get u.workers l) ≡ u) (some_is x x' (sym stands ∙ there))
@@ -270,12 +270,12 @@ module _ (s : Scheme) (plan : Plan) (w : World) where
     lifted q,
     sym (parted q).0,
     (parted q).1,
-    ap (λ (o : Option Host). onward o (λ u. slice_get u.workers l)) after ∙ (changed l (told_lifted (front_of (slice_get x.queues l))) x.workers e works ∙ ap (λ o. Some (told_lifted (front_of o) e)) queued),
+    ap (λ (o : Option Host). onward o (λ u. slice_get u.workers l)) after ∙ (changed l (lifted_after_reply (front_of (slice_get x.queues l))) x.workers e works ∙ ap (λ o. Some (lifted_after_reply (front_of o) e)) queued),
     ap (λ (o : Option Host). onward o (λ u. slice_get u.queues l)) after ∙ changed l lifted x.queues q queued,
   )
     where
-      after : slice_get (step s plan w (Frame h l)).hosts h ≡ Some (perform_lane s (host_plan plan h) x l Lift)
-      after = frame_after s plan w h l x e Lift stands works (ap (lane_ask_hand s (lane_plan (host_plan plan h) l) e) hand ∙ ap (λ b. cond b Lift Wait) ready)
+      after : slice_get (step s plan w (Frame h l)).hosts h ≡ Some (perform_lane s (host_plan plan h) x l Lifts)
+      after = frame_after s plan w h l x e Lifts stands works (ap (lane_ask_hand s (lane_plan (host_plan plan h) l) e) hand ∙ ap (λ b. cond b Lifts WorkerWaits) ready)
 
   pub frame_checked : FrameChecked s plan w
   frame_checked = record { judges = frames; waits = waits; lifts = lifts }
@@ -284,81 +284,81 @@ module _ (s : Scheme) (plan : Plan) (w : World) where
 
   module _ (k : ℕ) (x : Host) (y : Conn) (lane : LaneCert) (open' : IsOpen s plan w k x y lane) where
     abbrev here : HostPlan
-    here = host_plan plan (wire plan k).host
+    here = host_plan plan (conn_plan plan k).host
 
     abbrev bytes : List ℕ
-    bytes = arrived w (wire plan k).source y
+    bytes = arrived w (conn_plan plan k).source y
 
     accepts_frame : (i number : ℕ) (messages : List Message) → y.hand ≡ [] → y.passed ≡ None → y.failed ≡ None → slice_get (s.items here.key here.inlets bytes) y.taken ≡ Some (Framed number messages) → inlet_of here lane ≡ Some i →
-        accept s here y bytes ≡ Number i number (fresh_frame y number messages) (stale_frame y number)
+        accept s here y bytes ≡ AsksInlet i number (fresh_frame y number messages) (stale_frame y number)
     accepts_frame i number messages hand passed failed item inlet =
-        ap (λ b. cond b Quiet (accept_free s here y bytes y.hand y.passed y.failed)) open'.runs
+        ap (λ b. cond b ConnWaits (accept_free s here y bytes y.hand y.passed y.failed)) open'.runs
         ∙ (ap (λ ms. accept_free s here y bytes ms y.passed y.failed) hand
         ∙ (ap₂ (λ o q. accept_free s here y bytes [] o q) passed failed
         ∙ (ap (accept_item s here y bytes) item
         ∙ (ap (frame_from here y number messages) open'.hello
         ∙ ap (take_frame y number messages) inlet))))
 
-    number_by : (i number : ℕ) (messages : List Message) (last : Inlet) → slice_get x.inlets i ≡ Some last → accept s here y bytes ≡ Number i number (fresh_frame y number messages) (stale_frame y number) → (c : Bool) → is_fresh number last ≡ c →
-        By (unless c Stale)
-        (λ rule. (slice_get (step s plan w (Accept k)).conns k ≡ Some (stale_frame y number)) × (thing (step s plan w (Accept k)) (wire plan k).host (λ u. u.inlets) i ≡ Some last))
-        ((slice_get (step s plan w (Accept k)).conns k ≡ Some (fresh_frame y number messages)) × (thing (step s plan w (Accept k)) (wire plan k).host (λ u. u.inlets) i ≡ Some (Some number)))
+    number_by : (i number : ℕ) (messages : List Message) (last : Inlet) → slice_get x.inlets i ≡ Some last → accept s here y bytes ≡ AsksInlet i number (fresh_frame y number messages) (stale_frame y number) → (c : Bool) → is_fresh number last ≡ c →
+        IfRuleFails (unless c Stale)
+        (λ rule. (slice_get (step s plan w (Accept k)).conns k ≡ Some (stale_frame y number)) × (thing (step s plan w (Accept k)) (conn_plan plan k).host (λ u. u.inlets) i ≡ Some last))
+        ((slice_get (step s plan w (Accept k)).conns k ≡ Some (fresh_frame y number messages)) × (thing (step s plan w (Accept k)) (conn_plan plan k).host (λ u. u.inlets) i ≡ Some (Some number)))
     number_by i number messages last counts is c r = go c r
       where
         conn : slice_get (step s plan w (Accept k)).conns k ≡ Some (if is_fresh number last then fresh_frame y number messages else stale_frame y number)
-        conn = accept_after s plan w k x y open'.stands open'.here (Number i number (fresh_frame y number messages) (stale_frame y number)) is ∙ ap (λ o. Some (if fresh_in number o then fresh_frame y number messages else stale_frame y number)) counts
+        conn = accept_after s plan w k x y open'.stands open'.here (AsksInlet i number (fresh_frame y number messages) (stale_frame y number)) is ∙ ap (λ o. Some (if fresh_in number o then fresh_frame y number messages else stale_frame y number)) counts
 
-        inlet : thing (step s plan w (Accept k)) (wire plan k).host (λ u. u.inlets) i ≡ Some (inlet_after (if is_fresh number last then Fresh number else entries.Stale number) last)
-        inlet = ap (λ (q : Option Host). onward q (λ u. slice_get u.inlets i)) (accept_end s plan w k x y open'.stands open'.here (Number i number (fresh_frame y number messages) (stale_frame y number)) is) ∙ changed i (numbered number) x.inlets last counts
+        inlet : thing (step s plan w (Accept k)) (conn_plan plan k).host (λ u. u.inlets) i ≡ Some (inlet_after (if is_fresh number last then Fresh number else entries.Stale number) last)
+        inlet = ap (λ (q : Option Host). onward q (λ u. slice_get u.inlets i)) (accept_end s plan w k x y open'.stands open'.here (AsksInlet i number (fresh_frame y number messages) (stale_frame y number)) is) ∙ changed i (numbered number) x.inlets last counts
 
         go : (c : Bool) → is_fresh number last ≡ c →
-            By (unless c Stale)
-            (λ rule. (slice_get (step s plan w (Accept k)).conns k ≡ Some (stale_frame y number)) × (thing (step s plan w (Accept k)) (wire plan k).host (λ u. u.inlets) i ≡ Some last))
-            ((slice_get (step s plan w (Accept k)).conns k ≡ Some (fresh_frame y number messages)) × (thing (step s plan w (Accept k)) (wire plan k).host (λ u. u.inlets) i ≡ Some (Some number)))
+            IfRuleFails (unless c Stale)
+            (λ rule. (slice_get (step s plan w (Accept k)).conns k ≡ Some (stale_frame y number)) × (thing (step s plan w (Accept k)) (conn_plan plan k).host (λ u. u.inlets) i ≡ Some last))
+            ((slice_get (step s plan w (Accept k)).conns k ≡ Some (fresh_frame y number messages)) × (thing (step s plan w (Accept k)) (conn_plan plan k).host (λ u. u.inlets) i ≡ Some (Some number)))
         go true r = (conn ∙ ap (λ b. Some (if b then fresh_frame y number messages else stale_frame y number)) r, inlet ∙ ap (λ b. Some (inlet_after (if b then Fresh number else entries.Stale number) last)) r)
         go false r = (conn ∙ ap (λ b. Some (if b then fresh_frame y number messages else stale_frame y number)) r, inlet ∙ ap (λ b. Some (inlet_after (if b then Fresh number else entries.Stale number) last)) r)
 
     delivers_to : deliver s here y bytes ≡ deliver_to here y lane y.hand y.passed
-    delivers_to = ap (λ b. cond b Quiet (deliver_from here y (peer s here bytes))) open'.runs ∙ ap (deliver_from here y) open'.hello
+    delivers_to = ap (λ b. cond b ConnWaits (deliver_from here y (peer s here bytes))) open'.runs ∙ ap (deliver_from here y) open'.hello
 
-    delivery_by : (m : Message) (others : List Message) → deliver s here y bytes ≡ JudgeOne lane m others → (r : Option Rule) → judge_delivery s here x.desk lane m ≡ r →
-        By r
+    delivery_by : (m : Message) (others : List Message) → deliver s here y bytes ≡ AsksArrival lane m others → (r : Option Rule) → judge_delivery s here x.desk lane m ≡ r →
+        IfRuleFails r
         (λ rule. slice_get (step s plan w (Deliver k)).conns k ≡ Some (record y { hand = others; lines = y.lines ++ DropLine rule m.slot ∷ [] }))
         (slice_get (step s plan w (Deliver k)).conns k ≡ Some (record y { hand = others; passed = Some (passed_of lane m); lines = y.lines ++ PassLine m.slot ∷ [] }))
-    delivery_by m others is (Some rule) r = deliver_after s plan w k x y open'.stands open'.here (JudgeOne lane m others) is ∙ ap (λ o. Some (told_delivery lane m others o y)) r
-    delivery_by m others is None r = deliver_after s plan w k x y open'.stands open'.here (JudgeOne lane m others) is ∙ ap (λ o. Some (told_delivery lane m others o y)) r
+    delivery_by m others is (Some rule) r = deliver_after s plan w k x y open'.stands open'.here (AsksArrival lane m others) is ∙ ap (λ o. Some (delivery_after_reply lane m others o y)) r
+    delivery_by m others is None r = deliver_after s plan w k x y open'.stands open'.here (AsksArrival lane m others) is ∙ ap (λ o. Some (delivery_after_reply lane m others o y)) r
 
-    puts_passed : (b : ℕ) (p : Passed) → y.passed ≡ Some p → box_of here p.slot ≡ Some b → deliver s here y bytes ≡ Hand b p.mail (record y { passed = None })
+    puts_passed : (b : ℕ) (p : Passed) → y.passed ≡ Some p → box_of here p.slot ≡ Some b → deliver s here y bytes ≡ PutsPassed b p.mail (record y { passed = None })
     puts_passed b p passed box = delivers_to ∙ (ap (deliver_to here y lane y.hand) passed ∙ ap (put_passed y p.mail) box)
 
-    passed_room : (b : ℕ) (p : Passed) → deliver s here y bytes ≡ Hand b p.mail (record y { passed = None }) → FindsRoom s plan w (wire plan k).host b x (step s plan w (Deliver k)) p.mail
-    passed_room b p is = box_room s plan w (wire plan k).host x (step s plan w (Deliver k)) p.mail b (perform_conn s here x y (Hand b p.mail (record y { passed = None }))).host
-        (deliver_end s plan w k x y open'.stands open'.here (Hand b p.mail (record y { passed = None })) is) refl
+    passed_room : (b : ℕ) (p : Passed) → deliver s here y bytes ≡ PutsPassed b p.mail (record y { passed = None }) → FindsRoom s plan w (conn_plan plan k).host b x (step s plan w (Deliver k)) p.mail
+    passed_room b p is = box_room s plan w (conn_plan plan k).host x (step s plan w (Deliver k)) p.mail b (perform_conn s here x y (PutsPassed b p.mail (record y { passed = None }))).host
+        (deliver_end s plan w k x y open'.stands open'.here (PutsPassed b p.mail (record y { passed = None })) is) refl
 
   -- a connection that is busy takes nothing
   busy : (k : ℕ) (x : Host) (y : Conn) (lane : LaneCert) → IsOpen s plan w k x y lane → (y.hand ≢ []) ⊎ (y.passed ≢ None) → step s plan w (Accept k) ≡ w
   busy k x y lane is b =
-      ap₂ (λ o q. step_conn s plan w (wire plan k).host k asks o q) is.stands is.here
-      ∙ (ap (λ a. with_ends w (wire plan k).host k (perform_conn s (host_plan plan (wire plan k).host) x y a)) quiet
-      ∙ λ i. record { hosts = at_still (wire plan k).host (λ _. x) w.hosts (λ z e. some_is x z (sym is.stands ∙ e)) i; conns = at_still k (λ _. y) w.conns (λ z e. some_is y z (sym is.here ∙ e)) i })
+      ap₂ (λ o q. step_conn s plan w (conn_plan plan k).host k asks o q) is.stands is.here
+      ∙ (ap (λ a. with_ends w (conn_plan plan k).host k (perform_conn s (host_plan plan (conn_plan plan k).host) x y a)) quiet
+      ∙ λ i. record { hosts = at_still (conn_plan plan k).host (λ _. x) w.hosts (λ z e. some_is x z (sym is.stands ∙ e)) i; conns = at_still k (λ _. y) w.conns (λ z e. some_is y z (sym is.here ∙ e)) i })
     where
       asks : Conn → ConnAsk
-      asks conn = accept s (host_plan plan (wire plan k).host) conn (arrived w (wire plan k).source conn)
+      asks conn = accept s (host_plan plan (conn_plan plan k).host) conn (arrived w (conn_plan plan k).source conn)
 
-      free : (hand : List Message) (passed : Option Message) → (hand ≢ []) ⊎ (passed ≢ None) → accept_free s (host_plan plan (wire plan k).host) y (arrived w (wire plan k).source y) hand passed y.failed ≡ Quiet
+      free : (hand : List Message) (passed : Option Message) → (hand ≢ []) ⊎ (passed ≢ None) → accept_free s (host_plan plan (conn_plan plan k).host) y (arrived w (conn_plan plan k).source y) hand passed y.failed ≡ ConnWaits
       free [] None (inl n) = absurd (n refl)
       free [] None (inr n) = absurd (n refl)
       free [] (Some m) n = refl
       free (m ∷ hand) passed n = refl
 
-      quiet : asks y ≡ Quiet
-      quiet = ap (λ b. cond b Quiet (accept_free s (host_plan plan (wire plan k).host) y (arrived w (wire plan k).source y) y.hand y.passed y.failed)) is.runs ∙ free y.hand y.passed b
+      quiet : asks y ≡ ConnWaits
+      quiet = ap (λ b. cond b ConnWaits (accept_free s (host_plan plan (conn_plan plan k).host) y (arrived w (conn_plan plan k).source y) y.hand y.passed y.failed)) is.runs ∙ free y.hand y.passed b
 
   pub arrival_checked : ArrivalChecked s plan w
   arrival_checked = record {
     waits = busy;
     takes = λ k i number x y lane messages last is hand passed failed item inlet counts. number_by k x y lane is i number messages last counts (accepts_frame k x y lane is i number messages hand passed failed item inlet) (is_fresh number last) refl;
-    judges = λ k x y lane m others is hand passed. delivery_by k x y lane is m others (delivers_to k x y lane is ∙ ap₂ (λ ms o. deliver_to (host_plan plan (wire plan k).host) y lane ms o) hand passed) (judge_delivery s (host_plan plan (wire plan k).host) x.desk lane m) refl;
+    judges = λ k x y lane m others is hand passed. delivery_by k x y lane is m others (delivers_to k x y lane is ∙ ap₂ (λ ms o. deliver_to (host_plan plan (conn_plan plan k).host) y lane ms o) hand passed) (judge_delivery s (host_plan plan (conn_plan plan k).host) x.desk lane m) refl;
   }
 
   pub box_checked : BoxChecked s plan w
@@ -366,8 +366,8 @@ module _ (s : Scheme) (plan : Plan) (w : World) where
     judges = λ h p x y host slot reg label own clear m is says mine. here_by h p x y is.stands is.acts m (send_rule (host_plan plan h) y m) (judge_box (host_plan plan h) m.slot m.label) refl refl
         (asks_send h p x y host slot reg label own clear m is says ∙ ap (λ b. cond b (send_here (host_plan plan h) y m (send_rule (host_plan plan h) y m) (judge_box (host_plan plan h) m.slot m.label)) (send_away y m (send_rule (host_plan plan h) y m))) mine);
     puts = λ k b x y lane p is passed box.
-        let asks : deliver s (host_plan plan (wire plan k).host) y (arrived w (wire plan k).source y) ≡ Hand b p.mail (record y { passed = None }) = puts_passed k x y lane is b p passed box in
-        (deliver_after s plan w k x y is.stands is.here (Hand b p.mail (record y { passed = None })) asks, passed_room k x y lane is b p asks);
+        let asks : deliver s (host_plan plan (conn_plan plan k).host) y (arrived w (conn_plan plan k).source y) ≡ PutsPassed b p.mail (record y { passed = None }) = puts_passed k x y lane is b p passed box in
+        (deliver_after s plan w k x y is.stands is.here (PutsPassed b p.mail (record y { passed = None })) asks, passed_room k x y lane is b p asks);
   }
 
 pub each_checked : EachChecked

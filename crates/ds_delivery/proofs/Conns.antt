@@ -6,8 +6,8 @@ use Rattle.ds_msg.specs.declared.message.Message.{Message}
 use Rattle.ds_model.specs.Scheme.{Scheme, Item, Hello, Framed, Failure}
 use Rattle.ds_model.specs.Plan.{HostPlan}
 use Rattle.ds_model.specs.World.{Mail, Conn, Passed}
-use Rattle.ds_model.specs.Asking.{box_of, mail_of}
-use Rattle.ds_model.specs.Connecting.{ConnAsk, Quiet, Become, Number, JudgeOne, Hand, peer, inlet_of, fresh_frame, stale_frame, take_frame, frame_from, fail, accept_item, accept_free, accept, put_passed, deliver_to, deliver_from, deliver}
+use Rattle.ds_model.specs.ProcessStep.{box_of, mail_of}
+use Rattle.ds_model.specs.ConnectionStep.{ConnAsk, ConnWaits, ConnInternal, AsksInlet, AsksArrival, PutsPassed, peer, inlet_of, fresh_frame, stale_frame, take_frame, frame_from, fail, accept_item, accept_free, accept, put_passed, deliver_to, deliver_from, deliver}
 use Rattle.ds_model.proofs.Places.{cond_case}
 
 -- the stream, its hand and what it passed stay
@@ -28,11 +28,11 @@ pub record NumberFacts (s : Scheme) (plan : HostPlan) (y : Conn) (bytes : List �
   pub stale_is : stale ≡ stale_frame y number
 
 abbrev pub AcceptFacts : Scheme → HostPlan → Conn → List ℕ → ConnAsk → Type 0
-AcceptFacts s plan y bytes Quiet = Unit {0}
-AcceptFacts s plan y bytes (Become next) = SameHands y next
-AcceptFacts s plan y bytes (Number i number fresh stale) = NumberFacts s plan y bytes i number fresh stale
-AcceptFacts s plan y bytes (JudgeOne cert m rest) = ⊥
-AcceptFacts s plan y bytes (Hand b mail next) = ⊥
+AcceptFacts s plan y bytes ConnWaits = Unit {0}
+AcceptFacts s plan y bytes (ConnInternal next) = SameHands y next
+AcceptFacts s plan y bytes (AsksInlet i number fresh stale) = NumberFacts s plan y bytes i number fresh stale
+AcceptFacts s plan y bytes (AsksArrival cert m rest) = ⊥
+AcceptFacts s plan y bytes (PutsPassed b mail next) = ⊥
 
 frame_facts : (s : Scheme) (plan : HostPlan) (y : Conn) (bytes : List ℕ) (n : ℕ) (ms : List Message) (o : Option LaneCert) → peer s plan bytes ≡ o → slice_get (s.items plan.key plan.inlets bytes) y.taken ≡ Some (Framed n ms) → AcceptFacts s plan y bytes (frame_from plan y n ms o)
 frame_facts s plan y bytes n ms None e f = tt
@@ -58,7 +58,7 @@ free_facts s plan y bytes [] (Some m) failed = tt
 free_facts s plan y bytes [] None (Some fault) = tt
 
 pub accept_facts : (s : Scheme) (plan : HostPlan) (y : Conn) (bytes : List ℕ) → AcceptFacts s plan y bytes (accept s plan y bytes)
-accept_facts s plan y bytes = cond_case (AcceptFacts s plan y bytes) plan.silent Quiet (accept_free s plan y bytes y.hand y.passed y.failed) (λ _. tt) (λ _. free_facts s plan y bytes y.hand y.passed y.failed)
+accept_facts s plan y bytes = cond_case (AcceptFacts s plan y bytes) plan.silent ConnWaits (accept_free s plan y bytes y.hand y.passed y.failed) (λ _. tt) (λ _. free_facts s plan y bytes y.hand y.passed y.failed)
 
 -- a message of the hand to be judged, or the passed one to be put
 
@@ -77,11 +77,11 @@ pub record HandFacts (s : Scheme) (plan : HostPlan) (y : Conn) (bytes : List ℕ
   pub next_is : next ≡ record y { passed = None }
 
 abbrev pub DeliverFacts : Scheme → HostPlan → Conn → List ℕ → ConnAsk → Type 0
-DeliverFacts s plan y bytes Quiet = Unit {0}
-DeliverFacts s plan y bytes (Become next) = ⊥
-DeliverFacts s plan y bytes (Number i number fresh stale) = ⊥
-DeliverFacts s plan y bytes (JudgeOne cert m rest) = JudgeFacts s plan y bytes cert m rest
-DeliverFacts s plan y bytes (Hand b mail next) = HandFacts s plan y bytes b mail next
+DeliverFacts s plan y bytes ConnWaits = Unit {0}
+DeliverFacts s plan y bytes (ConnInternal next) = ⊥
+DeliverFacts s plan y bytes (AsksInlet i number fresh stale) = ⊥
+DeliverFacts s plan y bytes (AsksArrival cert m rest) = JudgeFacts s plan y bytes cert m rest
+DeliverFacts s plan y bytes (PutsPassed b mail next) = HandFacts s plan y bytes b mail next
 
 put_facts : (s : Scheme) (plan : HostPlan) (y : Conn) (bytes : List ℕ) (cert : LaneCert) (m : Passed) (o : Option ℕ) → peer s plan bytes ≡ Some cert → y.passed ≡ Some m → box_of plan m.slot ≡ o → DeliverFacts s plan y bytes (put_passed y m.mail o)
 put_facts s plan y bytes cert m None e q box = tt
@@ -97,4 +97,4 @@ from_facts s plan y bytes None e = tt
 from_facts s plan y bytes (Some cert) e = to_facts s plan y bytes cert y.hand y.passed e refl refl
 
 pub deliver_facts : (s : Scheme) (plan : HostPlan) (y : Conn) (bytes : List ℕ) → DeliverFacts s plan y bytes (deliver s plan y bytes)
-deliver_facts s plan y bytes = cond_case (DeliverFacts s plan y bytes) plan.silent Quiet (deliver_from plan y (peer s plan bytes)) (λ _. tt) (λ _. from_facts s plan y bytes _ refl)
+deliver_facts s plan y bytes = cond_case (DeliverFacts s plan y bytes) plan.silent ConnWaits (deliver_from plan y (peer s plan bytes)) (λ _. tt) (λ _. from_facts s plan y bytes _ refl)

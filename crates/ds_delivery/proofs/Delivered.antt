@@ -3,9 +3,9 @@ use Rattle.std.proofs.Common.{◌≡◌, ℕ, zero, suc, Bool, true, List, [], �
 use Rattle.ds_cert.specs.declared.lane.LaneCert.{LaneCert}
 use Rattle.ds_msg.specs.declared.message.Message.{Message}
 use Rattle.ds_model.specs.Scheme.{Scheme, Item, Hello, Framed}
-use Rattle.ds_model.specs.Plan.{HostPlan, LanePlan, Plan, Source, OfLane, host_plan, wire, lane_plan}
+use Rattle.ds_model.specs.Plan.{HostPlan, LanePlan, Plan, Source, OfLane, host_plan, conn_plan, lane_plan}
 use Rattle.ds_model.specs.World.{Waiting, Worker, Conn, Host, World, Passed}
-use Rattle.ds_model.specs.Connecting.{hello_of, passed_of}
+use Rattle.ds_model.specs.ConnectionStep.{hello_of, passed_of}
 use Rattle.ds_model.specs.Step.{Event, stream_from, worker_at, arrived, run}
 use Rattle.ds_model.specs.Lawful.{Past, PutsFrom, JudgedFrom, TakenFrom, FramedOn, SentBy, WroteFrame, OwnFrom, RulesFrom}
 use Rattle.ds_model.proofs.Places.{none_some, some_is}
@@ -14,8 +14,8 @@ use Rattle.ds_delivery.specs.Premises.{Written, stream_with, items_with, CanBeWr
 use Rattle.ds_delivery.specs.Delivered.{DeliveredLawfully}
 use Rattle.ds_delivery.proofs.Lists.{in_none, in_cases, in_map}
 use Rattle.ds_model.specs.ExporterRules.{sender_rule}
-use Rattle.ds_model.specs.Asking.{box_of, mail_of}
-use Rattle.ds_model.specs.Connecting.{ConnAsk, Hand, deliver}
+use Rattle.ds_model.specs.ProcessStep.{box_of, mail_of}
+use Rattle.ds_model.specs.ConnectionStep.{ConnAsk, PutsPassed, deliver}
 use Rattle.ds_delivery.proofs.Conns.{HandFacts, DeliverFacts, deliver_facts}
 use Rattle.ds_delivery.proofs.Kept.{IsWhole, QueuedBefore, KeptWorker}
 use Rattle.ds_delivery.proofs.KeptConns.{IsPassed}
@@ -109,13 +109,13 @@ module _ (s : Scheme) (has_spelling : Message → Bool) (plan : Plan) (start : W
   taken_own events spells k lane number messages m e taken c h l source = (item_hello (lane_plan (host_plan plan h) l) st.frames lane (read 0 (Hello lane) (first_hello _ lane taken.hello)), sent)
     where
       here : HostPlan
-      here = host_plan plan (wire plan k).host
+      here = host_plan plan (conn_plan plan k).host
 
-      st : Streams events h l taken.conn.count (arrived (run s plan start events) (wire plan k).source taken.conn)
-      st = own_streams events h l (wire plan k).source taken.conn source
+      st : Streams events h l taken.conn.count (arrived (run s plan start events) (conn_plan plan k).source taken.conn)
+      st = own_streams events h l (conn_plan plan k).source taken.conn source
 
-      read : (j : ℕ) (item : Item) → slice_get (s.items here.key here.inlets (arrived (run s plan start events) (wire plan k).source taken.conn)) j ≡ Some item → Contains (items_with (lane_plan (host_plan plan h) l) st.frames) item
-      read j item at = is.own h l (setup.wires k h l source) st.frames (λ f in_frames. wrote_can h l f events spells (st.whole f in_frames) (st.wrote f in_frames)) here st.many j item (subst (λ bytes. slice_get (s.items here.key here.inlets bytes) j ≡ Some item) st.stream at)
+      read : (j : ℕ) (item : Item) → slice_get (s.items here.key here.inlets (arrived (run s plan start events) (conn_plan plan k).source taken.conn)) j ≡ Some item → Contains (items_with (lane_plan (host_plan plan h) l) st.frames) item
+      read j item at = is.own h l (setup.conn_plans k h l source) st.frames (λ f in_frames. wrote_can h l f events spells (st.whole f in_frames) (st.wrote f in_frames)) here st.many j item (subst (λ bytes. slice_get (s.items here.key here.inlets bytes) j ≡ Some item) st.stream at)
 
       sent : SentBy s plan start h l number messages m events
       sent =
@@ -128,20 +128,20 @@ module _ (s : Scheme) (has_spelling : Message → Bool) (plan : Plan) (start : W
     says = old.says ∙ ap (λ (l : LaneCert). passed_of l old.m) same;
     number = old.number;
     messages = old.messages;
-    good = is.good (host_plan plan (wire plan k).host) lane (arrived (run s plan start before) (wire plan k).source puts.conn) puts.hello;
+    good = is.good (host_plan plan (conn_plan plan k).host) lane (arrived (run s plan start before) (conn_plan plan k).source puts.conn) puts.hello;
     among = old.among;
-    place = found (deliver s (host_plan plan (wire plan k).host) puts.conn (arrived (run s plan start before) (wire plan k).source puts.conn)) (deliver_facts s (host_plan plan (wire plan k).host) puts.conn (arrived (run s plan start before) (wire plan k).source puts.conn)) puts.asks;
+    place = found (deliver s (host_plan plan (conn_plan plan k).host) puts.conn (arrived (run s plan start before) (conn_plan plan k).source puts.conn)) (deliver_facts s (host_plan plan (conn_plan plan k).host) puts.conn (arrived (run s plan start before) (conn_plan plan k).source puts.conn)) puts.asks;
     judged = subst (λ c. Past before (λ b e. JudgedFrom s plan start k c old.m b e × Past b (λ b' e'. TakenFrom s plan start k c old.number old.messages b' e' × OwnFrom s plan start k c old.number old.messages old.m b'))) same (judged old.judged);
     link = λ h l source real mine wrote. wrote_sent h l old.number old.messages old.m before wrote old.among;
   }
     where
-      old : IsPassed s has_spelling plan start is before k (arrived (run s plan start before) (wire plan k).source puts.conn) p
+      old : IsPassed s has_spelling plan start is before k (arrived (run s plan start before) (conn_plan plan k).source puts.conn) p
       old = ((kept before).conns k puts.conn puts.here).passed p puts.passed
 
-      found : (a : ConnAsk) → DeliverFacts s (host_plan plan (wire plan k).host) puts.conn (arrived (run s plan start before) (wire plan k).source puts.conn) a → a ≡ Hand b p.mail puts.next → box_of (host_plan plan (wire plan k).host) old.m.slot ≡ Some b
+      found : (a : ConnAsk) → DeliverFacts s (host_plan plan (conn_plan plan k).host) puts.conn (arrived (run s plan start before) (conn_plan plan k).source puts.conn) a → a ≡ PutsPassed b p.mail puts.next → box_of (host_plan plan (conn_plan plan k).host) old.m.slot ≡ Some b
       found a f a_is =
-          let g : HandFacts s (host_plan plan (wire plan k).host) puts.conn (arrived (run s plan start before) (wire plan k).source puts.conn) b p.mail puts.next = subst (DeliverFacts s (host_plan plan (wire plan k).host) puts.conn (arrived (run s plan start before) (wire plan k).source puts.conn)) a_is f in
-          ap (λ (n : Passed). box_of (host_plan plan (wire plan k).host) n.slot) (sym old.says ∙ some_is p g.left (sym puts.passed ∙ g.passed)) ∙ g.box
+          let g : HandFacts s (host_plan plan (conn_plan plan k).host) puts.conn (arrived (run s plan start before) (conn_plan plan k).source puts.conn) b p.mail puts.next = subst (DeliverFacts s (host_plan plan (conn_plan plan k).host) puts.conn (arrived (run s plan start before) (conn_plan plan k).source puts.conn)) a_is f in
+          ap (λ (n : Passed). box_of (host_plan plan (conn_plan plan k).host) n.slot) (sym old.says ∙ some_is p g.left (sym puts.passed ∙ g.passed)) ∙ g.box
 
       same : old.lane ≡ lane
       same = some_is old.lane lane (sym old.read ∙ puts.hello)

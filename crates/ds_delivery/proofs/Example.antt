@@ -6,16 +6,16 @@ use Rattle.ds_label.specs.declared.category.PubKey.{PubKey}
 use Rattle.ds_msg.specs.declared.message.Message.{Message}
 use Rattle.ds_model.specs.Keys.{same_key}
 use Rattle.ds_model.specs.Scheme.{Item, Hello, Framed}
-use Rattle.ds_model.specs.Plan.{OfLane, IsLane, LanePlan, wire, host_plan, lane_plan}
+use Rattle.ds_model.specs.Plan.{OfLane, IsLane, LanePlan, conn_plan, host_plan, lane_plan}
 use Rattle.ds_cert.specs.declared.lane.LaneCert.{LaneCert}
-use Rattle.ds_model.specs.Connecting.{hello_of}
+use Rattle.ds_model.specs.ConnectionStep.{hello_of}
 use Rattle.ds_model.specs.World.{Process, Queue, Worker, Conn, Host, World}
 use Rattle.ds_model.specs.Step.{Event, step, run}
-use Rattle.ds_model.specs.SmallWorlds.{only_key}
-use Rattle.ds_model.specs.Carried.{letter, letter_lane, receiving, posting}
+use Rattle.ds_model.specs.Examples.OneHost.{only_key}
+use Rattle.ds_model.specs.Examples.TwoHosts.{letter, letter_lane, receiving, posting}
 use Rattle.ds_model.proofs.Places.{none_some, some_is}
 use Rattle.ds_delivery.specs.Premises.{Written, stream_with, items_with, CanBeWritten, IsReadable, AtSetup}
-use Rattle.ds_delivery.specs.Example.{is_letter, letter_frames, letter_items, letter_scheme, two_ways, before_both, by_lane, by_link, IsMet}
+use Rattle.ds_delivery.specs.Example.{is_letter, letter_frames, letter_items, letter_scheme, two_ways, before_both, by_lane, by_link, PremisesHold}
 use Rattle.ds_delivery.proofs.Lists.{in_head, in_tail, map_in}
 
 and_left : (a b : Bool) → (a && b) ≡ true → a ≡ true
@@ -112,12 +112,12 @@ scheme = record {
 -- the start
 
 setup : AtSetup letter_scheme two_ways before_both
-setup = record { wires = wires; procs = procs; queues = queues; workers = workers; conns = conns }
+setup = record { conn_plans = conn_plans; procs = procs; queues = queues; workers = workers; conns = conns }
   where
-    wires : (k h l : ℕ) → (wire two_ways k).source ≡ OfLane h l → IsLane two_ways h l
-    wires zero h l e = let hosts : 1 ≡ h = cc in let lanes : 0 ≡ l = cc in subst (λ g. IsLane two_ways g l) hosts (subst (λ j. IsLane two_ways 1 j) lanes (omega arith))
-    wires (suc zero) h l e = absurd (grind arith)
-    wires (suc (suc k)) h l e = absurd (grind arith)
+    conn_plans : (k h l : ℕ) → (conn_plan two_ways k).source ≡ OfLane h l → IsLane two_ways h l
+    conn_plans zero h l e = let hosts : 1 ≡ h = cc in let lanes : 0 ≡ l = cc in subst (λ g. IsLane two_ways g l) hosts (subst (λ j. IsLane two_ways 1 j) lanes (omega arith))
+    conn_plans (suc zero) h l e = absurd (grind arith)
+    conn_plans (suc (suc k)) h l e = absurd (grind arith)
 
     procs : (h : ℕ) (x : Host) (p : ℕ) (y : Process) → slice_get before_both.hosts h ≡ Some x → slice_get x.procs p ≡ Some y → y.hand ≡ None
     procs zero x p y e f = one p (ap (λ (u : Host). slice_get u.procs p) (some_is _ x e) ∙ f)
@@ -199,13 +199,13 @@ along [] (f ∷ before) later w t e = absurd (no_more f (before ++ later) e)
 along (d ∷ events) (f ∷ before) later w t e = subst (λ z. spelled (run letter_scheme two_ways (step letter_scheme two_ways w z) before) ≡ true) (same_first d f events (before ++ later) e)
     (along events before later (step letter_scheme two_ways w d) (and_right _ _ t) (same_rest d f events (before ++ later) e))
 
-is_met : (events : List Event) → always before_both events ≡ true → IsMet events
+is_met : (events : List Event) → always before_both events ≡ true → PremisesHold events
 is_met events t = record { scheme = scheme; setup = setup; spells = λ before later e h x p y m. at_world (run letter_scheme two_ways before_both before) (along events before later before_both t e) h x p y m }
 
-pub lane_met : IsMet by_lane
+pub lane_met : PremisesHold by_lane
 unfolding always spelled hand_passes Rattle.ds_label.specs.Flow.flows Rattle.ds_label.specs.Flow.same_label
 lane_met = is_met by_lane refl
 
-pub link_met : IsMet by_link
+pub link_met : PremisesHold by_link
 unfolding always spelled hand_passes Rattle.ds_label.specs.Flow.flows Rattle.ds_label.specs.Flow.same_label
 link_met = is_met by_link refl

@@ -17,8 +17,8 @@ use Rattle.ds_model.specs.Plan.{LanePlan, Plan, host_plan, lane_plan}
 use Rattle.ds_model.specs.Lane.{Queued, QueueFull, lane_after, admit, front, lifted, frame_limit}
 use Rattle.ds_model.specs.Desk.{act_entry, reply_of}
 use Rattle.ds_model.specs.World.{Process, Mail, Waiting, Queue, Worker, Host, World}
-use Rattle.ds_model.specs.Asking.{lane_of, Ask, Stay, Alone, Put, Admit, TakeFrom, Do, Judge, ask, told_taken, told_act, told_judged}
-use Rattle.ds_model.specs.LaneWork.{lane_ask_hand, LaneAsk, Wait, Lift, Check, lane_ask, told_lifted, told_checked, with_frame, still_good, frame_rule, passes}
+use Rattle.ds_model.specs.ProcessStep.{lane_of, Ask, Waits, Internal, Put, Admit, TakeFrom, PublicAct, AsksJudgement, ask, taken_after_reply, act_after_reply, judged_after_reply}
+use Rattle.ds_model.specs.WorkerStep.{lane_ask_hand, LaneAsk, WorkerWaits, Lifts, AsksRecheck, lane_ask, lifted_after_reply, checked_after_reply, with_frame, still_good, frame_rule, passes}
 use Rattle.ds_model.specs.Step.{Event, Step, Frame, oldest_in, judged, attached, perform, step_proc, front_of, perform_lane, step_lane, resolve, run}
 use Rattle.ds_model.specs.Lawful.{Past, QueuedOn, SentAway, FramedOn, WroteFrame}
 use Rattle.ds_model.proofs.Places.{none_some, some_is, cond_case}
@@ -150,13 +150,13 @@ module _ (s : Scheme) (plan : Plan) (start : World) where
       keeps_hand p y next e (inl same) m q = hand_later h p y (kept.hands p y e) m (sym same ∙ q)
       keeps_hand p y next e (inr none) m q = absurd (none_some m (sym none ∙ q))
 
-      taken_hand : (r slot : ℕ) (o : Option (Mail Category)) (z : Process) → (told_taken r slot o z).hand ≡ z.hand
+      taken_hand : (r slot : ℕ) (o : Option (Mail Category)) (z : Process) → (taken_after_reply r slot o z).hand ≡ z.hand
       taken_hand r slot None z = refl
       taken_hand r slot (Some m) z = cond_case (λ z'. z'.hand ≡ z.hand) (can_grant by_name z.own z.clear m.own m.clear) (record z { own = union by_name z.own m.own; clear = union by_name z.clear m.clear }) z (λ _. refl) (λ _. refl)
 
       module _ (p : ℕ) (y : Process) (acts : slice_get x.procs p ≡ Some y) (now : resolve plan (run s plan start done) ev ≡ Step h p) where
-        judged_hand : (m : Message) (o : Option Rule) → ask (host_plan plan h) p y ≡ Judge m → AskFacts (host_plan plan h) y (Judge m) → judged s (host_plan plan h) x.desk m ≡ o → KeptHand (done ++ ev ∷ []) h p (told_judged m (attached s (host_plan plan h) x.desk m) o y)
-        judged_hand m (Some rule) a f j = keeps_hand p y (told_judged m (attached s (host_plan plan h) x.desk m) (Some rule) y) acts (inl refl)
+        judged_hand : (m : Message) (o : Option Rule) → ask (host_plan plan h) p y ≡ AsksJudgement m → AskFacts (host_plan plan h) y (AsksJudgement m) → judged s (host_plan plan h) x.desk m ≡ o → KeptHand (done ++ ev ∷ []) h p (judged_after_reply m (attached s (host_plan plan h) x.desk m) o y)
+        judged_hand m (Some rule) a f j = keeps_hand p y (judged_after_reply m (attached s (host_plan plan h) x.desk m) (Some rule) y) acts (inl refl)
         judged_hand m None a f j = λ m' q. past_now done ev (λ b e. SentAway s plan start h p m' b e) (subst (λ n. SentAway s plan start h p n done ev) (some_is _ m' q) sent)
           where
             with_certs : Message
@@ -187,7 +187,7 @@ module _ (s : Scheme) (plan : Plan) (start : World) where
               own = f.own;
               clear = f.clear;
               lane = lane.0;
-              told = perform s (host_plan plan h) x p (Judge m);
+              told = perform s (host_plan plan h) x p (AsksJudgement m);
               event = now;
               stands = there;
               acts = acts;
@@ -197,8 +197,8 @@ module _ (s : Scheme) (plan : Plan) (start : World) where
               sender = subst (λ (n : Message). may_send by_name y.label y.own y.clear n.label n.own n.clear ≡ None) f.says rules.1;
               goes = subst (λ (n : Message). lane_of (host_plan plan h) m.to n.label ≡ Some lane.0) f.says lane.1;
               exporter = subst (λ (n : Message). sender_rule s x.desk.addresses x.desk.store x.desk.moment m.to n.label ≡ None) f.says desk.1;
-              becomes = ap (λ (w : World). slice_get w.hosts h) (means_after s plan (run s plan start done) ev (Step h p) now) ∙ host_after s plan (run s plan start done) h p x y there acts (Judge m) a;
-              hand = changed p (told_judged m (attached s (host_plan plan h) x.desk m) (judged s (host_plan plan h) x.desk m)) x.procs y acts ∙ ap (λ o. Some (told_judged m (attached s (host_plan plan h) x.desk m) o y)) j;
+              becomes = ap (λ (w : World). slice_get w.hosts h) (means_after s plan (run s plan start done) ev (Step h p) now) ∙ host_after s plan (run s plan start done) h p x y there acts (AsksJudgement m) a;
+              hand = changed p (judged_after_reply m (attached s (host_plan plan h) x.desk m) (judged s (host_plan plan h) x.desk m)) x.procs y acts ∙ ap (λ o. Some (judged_after_reply m (attached s (host_plan plan h) x.desk m) o y)) j;
             }
 
         admit_queue : (l : ℕ) (m : Message) (next : Process) → ask (host_plan plan h) p y ≡ Admit l m next → AdmitFacts (host_plan plan h) y l m next → (q : Queue) → slice_get x.queues l ≡ Some q → KeptQueue (done ++ ev ∷ []) h l (admit (lane_plan (host_plan plan h) l).room (record { sender = p; message = m }) q)
@@ -235,8 +235,8 @@ module _ (s : Scheme) (plan : Plan) (start : World) where
         workers_same l e q = worker_later h l e (kept.workers l e q)
 
         keep_ask : (a : Ask) → ask (host_plan plan h) p y ≡ a → AskFacts (host_plan plan h) y a → KeptHost (done ++ ev ∷ []) h (perform s (host_plan plan h) x p a)
-        keep_ask Stay is f = host_later h x kept
-        keep_ask (Alone next) is f = record { hands = hands_at p (λ _. next) (λ z e. keeps_hand p y next acts f); queues = queues_same; workers = workers_same }
+        keep_ask Waits is f = host_later h x kept
+        keep_ask (Internal next) is f = record { hands = hands_at p (λ _. next) (λ z e. keeps_hand p y next acts f); queues = queues_same; workers = workers_same }
         keep_ask (Put b mail next) is f = record { hands = hands_at p (λ _. next) (λ z e. keeps_hand p y next acts f); queues = queues_same; workers = workers_same }
         keep_ask (Admit l m next) is f = record {
           hands = hands_at p (λ _. next) (λ z e. keeps_hand p y next acts (inr f.empty));
@@ -244,18 +244,18 @@ module _ (s : Scheme) (plan : Plan) (start : World) where
           workers = workers_same;
         }
         keep_ask (TakeFrom b r slot) is f = record {
-          hands = hands_at p (told_taken r slot (oldest_in (slice_get x.boxes b))) (λ z e m q. hand_later h p z (kept.hands p z e) m (sym (taken_hand r slot (oldest_in (slice_get x.boxes b)) z) ∙ q));
+          hands = hands_at p (taken_after_reply r slot (oldest_in (slice_get x.boxes b))) (λ z e m q. hand_later h p z (kept.hands p z e) m (sym (taken_hand r slot (oldest_in (slice_get x.boxes b)) z) ∙ q));
           queues = queues_same;
           workers = workers_same;
         }
-        keep_ask (Do act r g) is f = record {
-          hands = hands_at p (told_act r g act (reply_of s (host_plan plan h) x.desk (act_entry s (host_plan plan h) x.desk act))) (λ z e m q. hand_later h p z (kept.hands p z e) m q);
+        keep_ask (PublicAct act r g) is f = record {
+          hands = hands_at p (act_after_reply r g act (reply_of s (host_plan plan h) x.desk (act_entry s (host_plan plan h) x.desk act))) (λ z e m q. hand_later h p z (kept.hands p z e) m q);
           queues = queues_same;
           workers = workers_same;
         }
-        keep_ask (Judge m) is f = record {
-          hands = hands_at p (told_judged m (attached s (host_plan plan h) x.desk m) (judged s (host_plan plan h) x.desk m))
-              (λ z e. subst (λ u. KeptHand (done ++ ev ∷ []) h p (told_judged m (attached s (host_plan plan h) x.desk m) (judged s (host_plan plan h) x.desk m) u)) (some_is y z (sym acts ∙ e)) (judged_hand m (judged s (host_plan plan h) x.desk m) is f refl));
+        keep_ask (AsksJudgement m) is f = record {
+          hands = hands_at p (judged_after_reply m (attached s (host_plan plan h) x.desk m) (judged s (host_plan plan h) x.desk m))
+              (λ z e. subst (λ u. KeptHand (done ++ ev ∷ []) h p (judged_after_reply m (attached s (host_plan plan h) x.desk m) (judged s (host_plan plan h) x.desk m) u)) (some_is y z (sym acts ∙ e)) (judged_hand m (judged s (host_plan plan h) x.desk m) is f refl));
           queues = queues_same;
           workers = workers_same;
         }
@@ -294,7 +294,7 @@ module _ (s : Scheme) (plan : Plan) (start : World) where
                 let g : Contains e.hand v.0 × (frame_rule s x.desk v.0 ≡ None) = good v.0 v.1 in
                 (v.0, g.0, v.2, subst (λ (z : Message). sender_rule s x.desk.addresses x.desk.store x.desk.moment z.to z.label ≡ None) v.2 g.1)
 
-            asks : (hand : List Waiting) → (hand ≡ [] → ⊥) → lane_ask_hand s (lane_plan (host_plan plan h) l) e hand ≡ Check
+            asks : (hand : List Waiting) → (hand ≡ [] → ⊥) → lane_ask_hand s (lane_plan (host_plan plan h) l) e hand ≡ AsksRecheck
             asks [] n = absurd (n refl)
             asks (v ∷ vs) n = refl
 
@@ -302,14 +302,14 @@ module _ (s : Scheme) (plan : Plan) (start : World) where
             framed = record {
               host = x;
               worker = e;
-              told = perform_lane s (host_plan plan h) x l Check;
+              told = perform_lane s (host_plan plan h) x l AsksRecheck;
               event = now;
               stands = there;
               works = works;
               counted = refl;
               judged = each_good;
-              becomes = ap (λ (w : World). slice_get w.hosts h) (means_after s plan (run s plan start done) ev (Frame h l) now) ∙ frame_after s plan (run s plan start done) h l x e Check there works (asks e.hand busy);
-              writes = changed l (told_checked s (lane_plan (host_plan plan h) l) x.desk) x.workers e works ∙ ap (λ ms. Some (with_frame s (lane_plan (host_plan plan h) l) e ms)) is;
+              becomes = ap (λ (w : World). slice_get w.hosts h) (means_after s plan (run s plan start done) ev (Frame h l) now) ∙ frame_after s plan (run s plan start done) h l x e AsksRecheck there works (asks e.hand busy);
+              writes = changed l (checked_after_reply s (lane_plan (host_plan plan h) l) x.desk) x.workers e works ∙ ap (λ ms. Some (with_frame s (lane_plan (host_plan plan h) l) e ms)) is;
             }
 
             long : length (map (λ (w : Waiting). w.message) (m ∷ rest)) ≤ length e.hand
@@ -324,7 +324,7 @@ module _ (s : Scheme) (plan : Plan) (start : World) where
             each_wrote old f new g (inr same) = subst (λ (z : Written). WroteFrame s plan start h l z.number z.messages (done ++ ev ∷ [])) (new ∙ same)
                 (past_now done ev (λ b e'. FramedOn s plan start h l e.leaf (map (λ w. w.message) (m ∷ rest)) b e') framed)
 
-        lifted_kept : (e : Worker) → slice_get x.workers l ≡ Some e → s.has_leaf (lane_plan (host_plan plan h) l).signing e.leaf ≡ true → KeptWorker (done ++ ev ∷ []) h l (told_lifted (front_of (slice_get x.queues l)) e)
+        lifted_kept : (e : Worker) → slice_get x.workers l ≡ Some e → s.has_leaf (lane_plan (host_plan plan h) l).signing e.leaf ≡ true → KeptWorker (done ++ ev ∷ []) h l (lifted_after_reply (front_of (slice_get x.queues l)) e)
         lifted_kept e works has =
             let old : KeptWorker done h l e = kept.workers l e works in
             record {
@@ -338,17 +338,17 @@ module _ (s : Scheme) (plan : Plan) (start : World) where
             }
 
         keep_lane_ask : (e : Worker) → slice_get x.workers l ≡ Some e → (a : LaneAsk) → LaneFacts s (lane_plan (host_plan plan h) l) e a → KeptHost (done ++ ev ∷ []) h (perform_lane s (host_plan plan h) x l a)
-        keep_lane_ask e works Wait f = host_later h x kept
-        keep_lane_ask e works Lift f = record {
+        keep_lane_ask e works WorkerWaits f = host_later h x kept
+        keep_lane_ask e works Lifts f = record {
           hands = λ p y q. hand_later h p y (kept.hands p y q);
           queues = all_at (KeptQueue (done ++ ev ∷ []) h) l lifted x.queues (λ j q n w. queue_later h j q (kept.queues j q w)) (λ q w v c. queue_later h l q (kept.queues l q w) v (in_lifted q v c));
-          workers = all_at (KeptWorker (done ++ ev ∷ []) h) l (told_lifted (front_of (slice_get x.queues l))) x.workers (λ j z n w. worker_later h j z (kept.workers j z w))
+          workers = all_at (KeptWorker (done ++ ev ∷ []) h) l (lifted_after_reply (front_of (slice_get x.queues l))) x.workers (λ j z n w. worker_later h j z (kept.workers j z w))
               (λ z w. lifted_kept z w (subst (λ (u : Worker). s.has_leaf (lane_plan (host_plan plan h) l).signing u.leaf ≡ true) (some_is e z (sym works ∙ w)) f));
         }
-        keep_lane_ask e works Check f = record {
+        keep_lane_ask e works AsksRecheck f = record {
           hands = λ p y q. hand_later h p y (kept.hands p y q);
           queues = λ j q w. queue_later h j q (kept.queues j q w);
-          workers = all_at (KeptWorker (done ++ ev ∷ []) h) l (told_checked s (lane_plan (host_plan plan h) l) x.desk) x.workers (λ j z n w. worker_later h j z (kept.workers j z w)) (λ z w. frame_kept z w (subst (λ (u : Worker). u.hand ≢ []) (some_is e z (sym works ∙ w)) f) (still_good s x.desk z.hand) refl);
+          workers = all_at (KeptWorker (done ++ ev ∷ []) h) l (checked_after_reply s (lane_plan (host_plan plan h) l) x.desk) x.workers (λ j z n w. worker_later h j z (kept.workers j z w)) (λ z w. frame_kept z w (subst (λ (u : Worker). u.hand ≢ []) (some_is e z (sym works ∙ w)) f) (still_good s x.desk z.hand) refl);
         }
 
         pub keep_lane : (o : Option Worker) → slice_get x.workers l ≡ o → KeptHost (done ++ ev ∷ []) h (step_lane s (host_plan plan h) x l o)

@@ -3,12 +3,12 @@ use Rattle.std.proofs.Common.{◌≡◌, ◌≤◌, ℕ, Bool, true, false, List
 use Rattle.std.specs.Prelude.{if◌then◌else◌}
 use Rattle.ds_msg.specs.declared.message.Message.{Message}
 use Rattle.ds_model.specs.Scheme.{Scheme}
-use Rattle.ds_model.specs.Plan.{Plan, Source, Link, OfLane, host_plan, wire, lane_plan}
+use Rattle.ds_model.specs.Plan.{Plan, Source, Link, OfLane, host_plan, conn_plan, lane_plan}
 use Rattle.ds_model.specs.Lane.{frame_limit}
 use Rattle.ds_model.specs.Desk.{Ticked, desk_after}
 use Rattle.ds_model.specs.World.{Queue, Conn, Host, World}
-use Rattle.ds_model.specs.Connecting.{ConnAsk, Quiet, Become, Number, JudgeOne, Hand, arrive, accept, deliver}
-use Rattle.ds_model.specs.Step.{Event, Step, Frame, Arrive, Accept, Deliver, Tick, Inject, Copy, Ends, stream_from, worker_at, step_proc, step_lane, perform_conn, stream_of, arrived, injected, with_ends, step_conn, ticked, on_host, on_conn, resolve, happens, run}
+use Rattle.ds_model.specs.ConnectionStep.{ConnAsk, ConnWaits, ConnInternal, AsksInlet, AsksArrival, PutsPassed, arrive, accept, deliver}
+use Rattle.ds_model.specs.Step.{Event, Step, Frame, Arrive, Accept, Deliver, Tick, Inject, Copy, HostAndConn, stream_from, worker_at, step_proc, step_lane, perform_conn, stream_of, arrived, injected, with_ends, step_conn, ticked, on_host, on_conn, resolve, happens, run}
 use Rattle.ds_model.proofs.Places.{none_some, some_is}
 use Rattle.ds_delivery.specs.Premises.{IsReadable, AtSetup}
 use Rattle.ds_delivery.proofs.Lists.{Grows, grows_self, grows_same, take_grows, all_at, in_none, in_empty}
@@ -23,17 +23,17 @@ short q e = subst (λ (z : Queue). length z ≤ frame_limit) (sym e) (omega arit
 module _ (s : Scheme) (has_spelling : Message → Bool) (plan : Plan) (start : World) (is : IsReadable s has_spelling plan) where
   pub record Kept (done : List Event) (w : World) : Type 0 where
     pub hosts : (h : ℕ) (x : Host) → slice_get w.hosts h ≡ Some x → KeptHost s plan start done h x
-    pub conns : (k : ℕ) (y : Conn) → slice_get w.conns k ≡ Some y → KeptConn s has_spelling plan start is done k (arrived w (wire plan k).source y) y
+    pub conns : (k : ℕ) (y : Conn) → slice_get w.conns k ≡ Some y → KeptConn s has_spelling plan start is done k (arrived w (conn_plan plan k).source y) y
 
   module _ (done : List Event) (ev : Event) (kept : Kept done (run s plan start done)) where
     abbrev now : World
     now = run s plan start done
 
     -- connections that the event leaves alone, in a world whose lanes' streams grew
-    conn_same : (w : World) → WorldGrows now w → (k : ℕ) (y : Conn) → slice_get now.conns k ≡ Some y → KeptConn s has_spelling plan start is (done ++ ev ∷ []) k (arrived w (wire plan k).source y) y
-    conn_same w g k y e = conn_reads s has_spelling plan start is (done ++ ev ∷ []) k (arrived now (wire plan k).source y) (arrived w (wire plan k).source y) y
-        (arrived_grows now w (wire plan k).source y y g (grows_self y.link) refl)
-        (conn_later s has_spelling plan start is done ev k (arrived now (wire plan k).source y) y y refl refl (kept.conns k y e))
+    conn_same : (w : World) → WorldGrows now w → (k : ℕ) (y : Conn) → slice_get now.conns k ≡ Some y → KeptConn s has_spelling plan start is (done ++ ev ∷ []) k (arrived w (conn_plan plan k).source y) y
+    conn_same w g k y e = conn_reads s has_spelling plan start is (done ++ ev ∷ []) k (arrived now (conn_plan plan k).source y) (arrived w (conn_plan plan k).source y) y
+        (arrived_grows now w (conn_plan plan k).source y y g (grows_self y.link) refl)
+        (conn_later s has_spelling plan start is done ev k (arrived now (conn_plan plan k).source y) y y refl refl (kept.conns k y e))
 
     -- an event on one host
     on_host_kept : (h : ℕ) (f : Host → Host) → ((x : Host) → slice_get now.hosts h ≡ Some x → KeptHost s plan start (done ++ ev ∷ []) h (f x)) → ((x : Host) → slice_get now.hosts h ≡ Some x → HostGrows x (f x)) → Kept (done ++ ev ∷ []) (on_host h f now)
@@ -46,48 +46,48 @@ module _ (s : Scheme) (has_spelling : Message → Bool) (plan : Plan) (start : W
     hosts_later h x e = host_later s plan start done ev h x (kept.hosts h x e)
 
     -- an event on one connection's bytes
-    on_conn_kept : (k : ℕ) (f : Conn → Conn) → ((y : Conn) → (f y).hand ≡ y.hand) → ((y : Conn) → (f y).passed ≡ y.passed) → ((y : Conn) → Grows (arrived now (wire plan k).source y) (arrived (on_conn k f now) (wire plan k).source (f y))) → Kept (done ++ ev ∷ []) (on_conn k f now)
+    on_conn_kept : (k : ℕ) (f : Conn → Conn) → ((y : Conn) → (f y).hand ≡ y.hand) → ((y : Conn) → (f y).passed ≡ y.passed) → ((y : Conn) → Grows (arrived now (conn_plan plan k).source y) (arrived (on_conn k f now) (conn_plan plan k).source (f y))) → Kept (done ++ ev ∷ []) (on_conn k f now)
     on_conn_kept k f hand passed g = record {
       hosts = hosts_later;
-      conns = all_at (λ j y. KeptConn s has_spelling plan start is (done ++ ev ∷ []) j (arrived (on_conn k f now) (wire plan j).source y) y) k f now.conns
+      conns = all_at (λ j y. KeptConn s has_spelling plan start is (done ++ ev ∷ []) j (arrived (on_conn k f now) (conn_plan plan j).source y) y) k f now.conns
           (λ j y n e. conn_same (on_conn k f now) (λ h l. grows_self _) j y e)
-          (λ y e. conn_reads s has_spelling plan start is (done ++ ev ∷ []) k (arrived now (wire plan k).source y) (arrived (on_conn k f now) (wire plan k).source (f y)) (f y) (g y)
-          (conn_later s has_spelling plan start is done ev k (arrived now (wire plan k).source y) y (f y) (hand y) (passed y) (kept.conns k y e)));
+          (λ y e. conn_reads s has_spelling plan start is (done ++ ev ∷ []) k (arrived now (conn_plan plan k).source y) (arrived (on_conn k f now) (conn_plan plan k).source (f y)) (f y) (g y)
+          (conn_later s has_spelling plan start is done ev k (arrived now (conn_plan plan k).source y) y (f y) (hand y) (passed y) (kept.conns k y e)));
     }
 
     -- an accept or a delivery
     same_workers : (r : ℕ) (x : Host) (y : Conn) (a : ConnAsk) → KeptHost s plan start (done ++ ev ∷ []) r x → KeptHost s plan start (done ++ ev ∷ []) r (perform_conn s (host_plan plan r) x y a).host
-    same_workers r x y Quiet k = k
-    same_workers r x y (Become next) k = k
-    same_workers r x y (Number i number fresh stale) k = record { hands = k.hands; queues = k.queues; workers = k.workers }
-    same_workers r x y (JudgeOne cert m rest) k = k
-    same_workers r x y (Hand b mail next) k = record { hands = k.hands; queues = k.queues; workers = k.workers }
+    same_workers r x y ConnWaits k = k
+    same_workers r x y (ConnInternal next) k = k
+    same_workers r x y (AsksInlet i number fresh stale) k = record { hands = k.hands; queues = k.queues; workers = k.workers }
+    same_workers r x y (AsksArrival cert m rest) k = k
+    same_workers r x y (PutsPassed b mail next) k = record { hands = k.hands; queues = k.queues; workers = k.workers }
 
     ends_kept : (k : ℕ) (asks : Conn → ConnAsk) →
-        ((x : Host) (y : Conn) → slice_get now.hosts (wire plan k).host ≡ Some x → slice_get now.conns k ≡ Some y → KeptNext s has_spelling plan start is done ev k (arrived now (wire plan k).source y) y (perform_conn s (host_plan plan (wire plan k).host) x y (asks y)).conn) →
-        (o : Option Host) (q : Option Conn) → slice_get now.hosts (wire plan k).host ≡ o → slice_get now.conns k ≡ q → Kept (done ++ ev ∷ []) (step_conn s plan now (wire plan k).host k asks o q)
+        ((x : Host) (y : Conn) → slice_get now.hosts (conn_plan plan k).host ≡ Some x → slice_get now.conns k ≡ Some y → KeptNext s has_spelling plan start is done ev k (arrived now (conn_plan plan k).source y) y (perform_conn s (host_plan plan (conn_plan plan k).host) x y (asks y)).conn) →
+        (o : Option Host) (q : Option Conn) → slice_get now.hosts (conn_plan plan k).host ≡ o → slice_get now.conns k ≡ q → Kept (done ++ ev ∷ []) (step_conn s plan now (conn_plan plan k).host k asks o q)
     ends_kept k asks next None q ho co = record { hosts = hosts_later; conns = conn_same now (world_self now) }
     ends_kept k asks next (Some x) None ho co = record { hosts = hosts_later; conns = conn_same now (world_self now) }
     ends_kept k asks next (Some x) (Some y) ho co = record {
-      hosts = all_at (KeptHost s plan start (done ++ ev ∷ [])) (wire plan k).host (λ _. (perform_conn s (host_plan plan (wire plan k).host) x y (asks y)).host) now.hosts (λ j z n e. hosts_later j z e)
-          (λ z e. same_workers (wire plan k).host x y (asks y) (hosts_later (wire plan k).host x ho));
-      conns = all_at (λ j z. KeptConn s has_spelling plan start is (done ++ ev ∷ []) j (arrived after (wire plan j).source z) z) k (λ _. (perform_conn s (host_plan plan (wire plan k).host) x y (asks y)).conn) now.conns
+      hosts = all_at (KeptHost s plan start (done ++ ev ∷ [])) (conn_plan plan k).host (λ _. (perform_conn s (host_plan plan (conn_plan plan k).host) x y (asks y)).host) now.hosts (λ j z n e. hosts_later j z e)
+          (λ z e. same_workers (conn_plan plan k).host x y (asks y) (hosts_later (conn_plan plan k).host x ho));
+      conns = all_at (λ j z. KeptConn s has_spelling plan start is (done ++ ev ∷ []) j (arrived after (conn_plan plan j).source z) z) k (λ _. (perform_conn s (host_plan plan (conn_plan plan k).host) x y (asks y)).conn) now.conns
           (λ j z n e. conn_same after grown j z e)
-          (λ z e. conn_reads s has_spelling plan start is (done ++ ev ∷ []) k (arrived now (wire plan k).source y) (arrived after (wire plan k).source told.conn) told.conn
-          (arrived_grows now after (wire plan k).source y told.conn grown (grows_same y.link told.conn.link mine.link) mine.count) mine.kept);
+          (λ z e. conn_reads s has_spelling plan start is (done ++ ev ∷ []) k (arrived now (conn_plan plan k).source y) (arrived after (conn_plan plan k).source told.conn) told.conn
+          (arrived_grows now after (conn_plan plan k).source y told.conn grown (grows_same y.link told.conn.link mine.link) mine.count) mine.kept);
     }
       where
-        told : Ends
-        told = perform_conn s (host_plan plan (wire plan k).host) x y (asks y)
+        told : HostAndConn
+        told = perform_conn s (host_plan plan (conn_plan plan k).host) x y (asks y)
 
         after : World
-        after = with_ends now (wire plan k).host k told
+        after = with_ends now (conn_plan plan k).host k told
 
-        mine : KeptNext s has_spelling plan start is done ev k (arrived now (wire plan k).source y) y told.conn
+        mine : KeptNext s has_spelling plan start is done ev k (arrived now (conn_plan plan k).source y) y told.conn
         mine = next x y ho co
 
         grown : WorldGrows now after
-        grown = at_grows now after (wire plan k).host (λ _. told.host) refl (λ z e l. subst (λ (u : Host). Grows (stream_from (slice_get u.workers l)) (stream_from (slice_get told.host.workers l))) (some_is x z (sym ho ∙ e)) (conn_grows s (host_plan plan (wire plan k).host) x y (asks y) l))
+        grown = at_grows now after (conn_plan plan k).host (λ _. told.host) refl (λ z e l. subst (λ (u : Host). Grows (stream_from (slice_get u.workers l)) (stream_from (slice_get told.host.workers l))) (some_is x z (sym ho ∙ e)) (conn_grows s (host_plan plan (conn_plan plan k).host) x y (asks y) l))
 
     injected_hand : (source : Source) (bytes : List ℕ) (y : Conn) → (injected source bytes y).hand ≡ y.hand
     injected_hand Link bytes y = refl
@@ -108,11 +108,11 @@ module _ (s : Scheme) (has_spelling : Message → Bool) (plan : Plan) (start : W
     keep_event (Frame h l) r = on_host_kept h (λ x. step_lane s (host_plan plan h) x l (slice_get x.workers l))
         (λ x e. keep_lane s plan start done ev h x e (kept.hosts h x e) l r (slice_get x.workers l) refl)
         (λ x e. lane_grows s (host_plan plan h) x l (slice_get x.workers l))
-    keep_event (Arrive k n) r = on_conn_kept k (λ conn. arrive (stream_of now (wire plan k).source conn) n conn) (λ y. refl) (λ y. refl)
-        (λ y. arrive_grows now (on_conn k (λ conn. arrive (stream_of now (wire plan k).source conn) n conn) now) (wire plan k).source n y refl)
-    keep_event (Accept k) r = ends_kept k (λ conn. accept s (host_plan plan (wire plan k).host) conn (arrived now (wire plan k).source conn))
+    keep_event (Arrive k n) r = on_conn_kept k (λ conn. arrive (stream_of now (conn_plan plan k).source conn) n conn) (λ y. refl) (λ y. refl)
+        (λ y. arrive_grows now (on_conn k (λ conn. arrive (stream_of now (conn_plan plan k).source conn) n conn) now) (conn_plan plan k).source n y refl)
+    keep_event (Accept k) r = ends_kept k (λ conn. accept s (host_plan plan (conn_plan plan k).host) conn (arrived now (conn_plan plan k).source conn))
         (λ x y ho co. accept_next s has_spelling plan start is done ev k x y ho co (kept.conns k y co) r) _ _ refl refl
-    keep_event (Deliver k) r = ends_kept k (λ conn. deliver s (host_plan plan (wire plan k).host) conn (arrived now (wire plan k).source conn))
+    keep_event (Deliver k) r = ends_kept k (λ conn. deliver s (host_plan plan (conn_plan plan k).host) conn (arrived now (conn_plan plan k).source conn))
         (λ x y ho co. deliver_next s has_spelling plan start is done ev k x y ho co (kept.conns k y co) r) _ _ refl refl
     keep_event (Tick h t) r = on_host_kept h (ticked (host_plan plan h) t)
         (λ x e. tick (host_plan plan h).silent x (hosts_later h x e))
@@ -121,8 +121,8 @@ module _ (s : Scheme) (has_spelling : Message → Bool) (plan : Plan) (start : W
         tick : (b : Bool) (x : Host) → KeptHost s plan start (done ++ ev ∷ []) h x → KeptHost s plan start (done ++ ev ∷ []) h (if b then x else record x { desk = desk_after (host_plan plan h).key (Ticked t) x.desk })
         tick true x k = k
         tick false x k = record { hands = k.hands; queues = k.queues; workers = k.workers }
-    keep_event (Inject k bytes) r = on_conn_kept k (injected (wire plan k).source bytes) (injected_hand (wire plan k).source bytes) (injected_passed (wire plan k).source bytes)
-        (λ y. injected_grows now (on_conn k (injected (wire plan k).source bytes) now) (wire plan k).source bytes y refl)
+    keep_event (Inject k bytes) r = on_conn_kept k (injected (conn_plan plan k).source bytes) (injected_hand (conn_plan plan k).source bytes) (injected_passed (conn_plan plan k).source bytes)
+        (λ y. injected_grows now (on_conn k (injected (conn_plan plan k).source bytes) now) (conn_plan plan k).source bytes y refl)
     keep_event (Copy k j from until) r = record { hosts = hosts_later; conns = conn_same now (world_self now) }
 
     pub keep_step : Kept (done ++ ev ∷ []) (run s plan start (done ++ ev ∷ []))

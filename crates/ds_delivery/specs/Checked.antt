@@ -15,19 +15,19 @@ use Rattle.ds_model.specs.Keys.{same_key}
 use Rattle.ds_model.specs.FirstRule.{unless, first_rule}
 use Rattle.ds_model.specs.ExporterRules.{receiver_rule}
 use Rattle.ds_model.specs.Scheme.{Scheme, Framed}
-use Rattle.ds_model.specs.Plan.{Plan, host_plan, wire, box_plan, lane_plan}
+use Rattle.ds_model.specs.Plan.{Plan, host_plan, conn_plan, box_plan, lane_plan}
 use Rattle.ds_model.specs.Mailbox.{PutIn, FoundFull, oldest, took}
 use Rattle.ds_model.specs.Inlet.{Inlet, is_fresh}
 use Rattle.ds_model.specs.World.{Process, Mail, Mailbox, Waiting, Queue, Worker, LaneLine, QueuedLine, FullLine, DroppedLine, PassLine, DropLine, Conn, Host, World, Passed}
-use Rattle.ds_model.specs.Asking.{noted, box_of, judge_box, message_of, send_rule, mail_of, take_rule, lane_of, told_taken}
-use Rattle.ds_model.specs.LaneWork.{frame_rule, with_frame}
-use Rattle.ds_model.specs.Connecting.{peer, inlet_of, fresh_frame, stale_frame, target_rule, passed_of}
+use Rattle.ds_model.specs.ProcessStep.{noted, box_of, judge_box, message_of, send_rule, mail_of, take_rule, lane_of, taken_after_reply}
+use Rattle.ds_model.specs.WorkerStep.{frame_rule, with_frame}
+use Rattle.ds_model.specs.ConnectionStep.{peer, inlet_of, fresh_frame, stale_frame, target_rule, passed_of}
 use Rattle.ds_model.specs.Step.{Step, Frame, Accept, Deliver, judged, attached, arrived, step}
 
 -- one thing where a rule fails, by the rule; another where none fails
-abbrev pub By : Option Rule → (Rule → Type 0) → Type 0 → Type 0
-By (Some rule) dropped on = dropped rule
-By None dropped on = on
+abbrev pub IfRuleFails : Option Rule → (Rule → Type 0) → Type 0 → Type 0
+IfRuleFails (Some rule) dropped on = dropped rule
+IfRuleFails None dropped on = on
 
 -- the thing at a place of a list of a host, where both are there
 abbrev pub thing : {X : Type 0} → World → (host : ℕ) → (Host → List X) → (place : ℕ) → Option X
@@ -43,15 +43,15 @@ module _ (s : Scheme) (plan : Plan) (w : World) where
 
   -- connection k to a running host, which has read this lane certificate
   pub record IsOpen (k : ℕ) (x : Host) (y : Conn) (lane : LaneCert) : Type 0 where
-    pub stands : slice_get w.hosts (wire plan k).host ≡ Some x
+    pub stands : slice_get w.hosts (conn_plan plan k).host ≡ Some x
     pub here : slice_get w.conns k ≡ Some y
-    pub runs : (host_plan plan (wire plan k).host).silent ≡ false
-    pub hello : peer s (host_plan plan (wire plan k).host) (arrived w (wire plan k).source y) ≡ Some lane
+    pub runs : (host_plan plan (conn_plan plan k).host).silent ≡ false
+    pub hello : peer s (host_plan plan (conn_plan plan k).host) (arrived w (conn_plan plan k).source y) ≡ Some lane
 
   -- the room of mailbox b of host h, before an event and after it: the message is appended, or its entry says that it found no room
   abbrev pub FindsRoom : (h b : ℕ) → Host → World → Mail Category → Type 0
   FindsRoom h b x after mail = (z : Mailbox) → slice_get x.boxes b ≡ Some z →
-      By (unless (nat_lt (length z.waiting) (box_plan (host_plan plan h) b).room) BoxFull)
+      IfRuleFails (unless (nat_lt (length z.waiting) (box_plan (host_plan plan h) b).room) BoxFull)
       (λ rule. thing after h (λ u. u.boxes) b ≡ Some (record { waiting = z.waiting; entries = z.entries ++ FoundFull mail ∷ [] }))
       (thing after h (λ u. u.boxes) b ≡ Some (record { waiting = z.waiting ++ mail ∷ []; entries = z.entries ++ PutIn mail ∷ [] }))
 
@@ -61,14 +61,14 @@ module _ (s : Scheme) (plan : Plan) (w : World) where
     -- hand, with the certificates that the desk attaches
     pub judges : (h p : ℕ) (x : Host) (y : Process) (host slot reg : ℕ) (label own clear : List Category) (m : Message) →
         IsAt h p x y (ops.Send host slot reg label own clear) → m ≡ message_of (host_plan plan h) y host slot reg label own clear → same_key m.to (host_plan plan h).key ≡ false →
-        By (first_rule (send_rule (host_plan plan h) y m ∷ judged s (host_plan plan h) x.desk m ∷ []))
+        IfRuleFails (first_rule (send_rule (host_plan plan h) y m ∷ judged s (host_plan plan h) x.desk m ∷ []))
         (λ rule. thing (step s plan w (Step h p)) h (λ u. u.procs) p ≡ Some (noted (notes.Refused rule) y))
         (thing (step s plan w (Step h p)) h (λ u. u.procs) p ≡ Some (record y { hand = Some (record m { certs = attached s (host_plan plan h) x.desk m }) }))
     -- then the lane's room: the message is appended, or a line says that it found none; the sender notes `sent` either way
     pub queues : (h p l : ℕ) (x : Host) (y : Process) (m : Message) (q : Queue) (log : List LaneLine) →
         slice_get w.hosts h ≡ Some x → slice_get x.procs p ≡ Some y → y.hand ≡ Some m → lane_of (host_plan plan h) m.to m.label ≡ Some l → slice_get x.queues l ≡ Some q → slice_get x.logs l ≡ Some log →
         (thing (step s plan w (Step h p)) h (λ u. u.procs) p ≡ Some (noted notes.Sent (record y { hand = None })))
-        × By (unless (nat_lt (length q) (lane_plan (host_plan plan h) l).room) LaneFull)
+        × IfRuleFails (unless (nat_lt (length q) (lane_plan (host_plan plan h) l).room) LaneFull)
         (λ rule. (thing (step s plan w (Step h p)) h (λ u. u.queues) l ≡ Some q) × (thing (step s plan w (Step h p)) h (λ u. u.logs) l ≡ Some (log ++ FullLine (record { sender = p; message = m }) ∷ [])))
         ((thing (step s plan w (Step h p)) h (λ u. u.queues) l ≡ Some (q ++ record { sender = p; message = m } ∷ [])) × (thing (step s plan w (Step h p)) h (λ u. u.logs) l ≡ Some (log ++ QueuedLine (record { sender = p; message = m }) ∷ [])))
 
@@ -79,7 +79,7 @@ module _ (s : Scheme) (plan : Plan) (w : World) where
     pub worker : thing (step s plan w (Frame h l)) h (λ u. u.workers) l ≡ Some (with_frame s (lane_plan (host_plan plan h) l) e framed)
     pub log_after : thing (step s plan w (Frame h l)) h (λ u. u.logs) l ≡ Some (log ++ lines)
     -- each is dropped, with its rule in a line, or framed
-    pub each : (v : Waiting) → Contains e.hand v → By (frame_rule s x.desk v) (λ rule. Contains lines (DroppedLine rule v.sender v.message.slot)) (Contains framed v)
+    pub each : (v : Waiting) → Contains e.hand v → IfRuleFails (frame_rule s x.desk v) (λ rule. Contains lines (DroppedLine rule v.sender v.message.slot)) (Contains framed v)
     -- no other is framed, and no other line speaks of a drop
     pub only : (v : Waiting) → Contains framed v → Contains e.hand v × (frame_rule s x.desk v ≡ None)
     pub no_more : (rule : Rule) (sender slot : ℕ) → Contains lines (DroppedLine rule sender slot) → (v : Waiting) × Contains e.hand v × (frame_rule s x.desk v ≡ Some rule) × (v.sender ≡ sender) × (v.message.slot ≡ slot)
@@ -104,15 +104,15 @@ module _ (s : Scheme) (plan : Plan) (w : World) where
     -- hand, and its number is the inlet's last
     pub takes : (k i number : ℕ) (x : Host) (y : Conn) (lane : LaneCert) (messages : List Message) (last : Inlet) →
         IsOpen k x y lane → y.hand ≡ [] → y.passed ≡ None → y.failed ≡ None →
-        slice_get (s.items (host_plan plan (wire plan k).host).key (host_plan plan (wire plan k).host).inlets (arrived w (wire plan k).source y)) y.taken ≡ Some (Framed number messages) →
-        inlet_of (host_plan plan (wire plan k).host) lane ≡ Some i → slice_get x.inlets i ≡ Some last →
-        By (unless (is_fresh number last) Stale)
-        (λ rule. (slice_get (step s plan w (Accept k)).conns k ≡ Some (stale_frame y number)) × (thing (step s plan w (Accept k)) (wire plan k).host (λ u. u.inlets) i ≡ Some last))
-        ((slice_get (step s plan w (Accept k)).conns k ≡ Some (fresh_frame y number messages)) × (thing (step s plan w (Accept k)) (wire plan k).host (λ u. u.inlets) i ≡ Some (Some number)))
+        slice_get (s.items (host_plan plan (conn_plan plan k).host).key (host_plan plan (conn_plan plan k).host).inlets (arrived w (conn_plan plan k).source y)) y.taken ≡ Some (Framed number messages) →
+        inlet_of (host_plan plan (conn_plan plan k).host) lane ≡ Some i → slice_get x.inlets i ≡ Some last →
+        IfRuleFails (unless (is_fresh number last) Stale)
+        (λ rule. (slice_get (step s plan w (Accept k)).conns k ≡ Some (stale_frame y number)) × (thing (step s plan w (Accept k)) (conn_plan plan k).host (λ u. u.inlets) i ≡ Some last))
+        ((slice_get (step s plan w (Accept k)).conns k ≡ Some (fresh_frame y number messages)) × (thing (step s plan w (Accept k)) (conn_plan plan k).host (λ u. u.inlets) i ≡ Some (Some number)))
     -- the receiving exporter's rule, and the mailbox's: a line of a drop, or the message is passed
     pub judges : (k : ℕ) (x : Host) (y : Conn) (lane : LaneCert) (m : Message) (others : List Message) →
         IsOpen k x y lane → y.hand ≡ m ∷ others → y.passed ≡ None →
-        By (first_rule (receiver_rule s x.desk.store x.desk.rows x.desk.moment (host_plan plan (wire plan k).host).key lane m ∷ target_rule (judge_box (host_plan plan (wire plan k).host) m.slot m.label) ∷ []))
+        IfRuleFails (first_rule (receiver_rule s x.desk.store x.desk.rows x.desk.moment (host_plan plan (conn_plan plan k).host).key lane m ∷ target_rule (judge_box (host_plan plan (conn_plan plan k).host) m.slot m.label) ∷ []))
         (λ rule. slice_get (step s plan w (Deliver k)).conns k ≡ Some (record y { hand = others; lines = y.lines ++ DropLine rule m.slot ∷ [] }))
         (slice_get (step s plan w (Deliver k)).conns k ≡ Some (record y { hand = others; passed = Some (passed_of lane m); lines = y.lines ++ PassLine m.slot ∷ [] }))
 
@@ -122,23 +122,23 @@ module _ (s : Scheme) (plan : Plan) (w : World) where
     -- mailbox, where it finds room; the sender notes `sent` either way
     pub judges : (h p : ℕ) (x : Host) (y : Process) (host slot reg : ℕ) (label own clear : List Category) (m : Message) →
         IsAt h p x y (ops.Send host slot reg label own clear) → m ≡ message_of (host_plan plan h) y host slot reg label own clear → same_key m.to (host_plan plan h).key ≡ true →
-        By (first_rule (send_rule (host_plan plan h) y m ∷ target_rule (judge_box (host_plan plan h) m.slot m.label) ∷ []))
+        IfRuleFails (first_rule (send_rule (host_plan plan h) y m ∷ target_rule (judge_box (host_plan plan h) m.slot m.label) ∷ []))
         (λ rule. thing (step s plan w (Step h p)) h (λ u. u.procs) p ≡ Some (noted (notes.Refused rule) y))
         ((b : ℕ) × (box_of (host_plan plan h) m.slot ≡ Some b) × (thing (step s plan w (Step h p)) h (λ u. u.procs) p ≡ Some (noted notes.Sent y)) × FindsRoom h b x (step s plan w (Step h p)) (mail_of (host_plan plan h).key m))
     -- a message that a connection passed goes into the mailbox for which it was judged, where it finds room; the connection
     -- doesn't learn whether
     pub puts : (k b : ℕ) (x : Host) (y : Conn) (lane : LaneCert) (p : Passed) →
-        IsOpen k x y lane → y.passed ≡ Some p → box_of (host_plan plan (wire plan k).host) p.slot ≡ Some b →
-        (slice_get (step s plan w (Deliver k)).conns k ≡ Some (record y { passed = None })) × FindsRoom (wire plan k).host b x (step s plan w (Deliver k)) p.mail
+        IsOpen k x y lane → y.passed ≡ Some p → box_of (host_plan plan (conn_plan plan k).host) p.slot ≡ Some b →
+        (slice_get (step s plan w (Deliver k)).conns k ≡ Some (record y { passed = None })) × FindsRoom (conn_plan plan k).host b x (step s plan w (Deliver k)) p.mail
 
   -- TAKE: that the mailbox is the process's own, and that its label flows to the process's: a note of refusal, or the oldest
   -- message is taken; from an empty mailbox none, and the process waits
   pub record TakeChecked : Type 0 where
     pub judges : (h p : ℕ) (x : Host) (y : Process) (reg slot : ℕ) → IsAt h p x y (ops.Take reg slot) →
-        By (take_rule (host_plan plan h) p y (box_of (host_plan plan h) slot))
+        IfRuleFails (take_rule (host_plan plan h) p y (box_of (host_plan plan h) slot))
         (λ rule. thing (step s plan w (Step h p)) h (λ u. u.procs) p ≡ Some (noted (notes.Refused rule) y))
         ((b : ℕ) × (box_of (host_plan plan h) slot ≡ Some b) × ((z : Mailbox) → slice_get x.boxes b ≡ Some z →
-        (thing (step s plan w (Step h p)) h (λ u. u.procs) p ≡ Some (told_taken reg slot (oldest z) y)) × (thing (step s plan w (Step h p)) h (λ u. u.boxes) b ≡ Some (took z))))
+        (thing (step s plan w (Step h p)) h (λ u. u.procs) p ≡ Some (taken_after_reply reg slot (oldest z) y)) × (thing (step s plan w (Step h p)) h (λ u. u.boxes) b ≡ Some (took z))))
 
   -- all five
   pub record Checked : Type 0 where

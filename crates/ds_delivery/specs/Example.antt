@@ -8,11 +8,11 @@ use Rattle.ds_model.specs.Scheme.{Scheme, Item, Hello, Framed}
 use Rattle.ds_model.specs.Plan.{Plan, Link, OfLane}
 use Rattle.ds_model.specs.Mailbox.{PutIn}
 use Rattle.ds_model.specs.World.{World}
-use Rattle.ds_model.specs.Asking.{mail_of}
+use Rattle.ds_model.specs.ProcessStep.{mail_of}
 use Rattle.ds_model.specs.Step.{Event, Step, Frame, Arrive, Accept, Deliver, Copy, run}
-use Rattle.ds_model.specs.Touch.{InBox, touch}
-use Rattle.ds_model.specs.SmallWorlds.{only_key, other_key, new_conn}
-use Rattle.ds_model.specs.Carried.{letter, letter_lane, toy_scheme, receiver, sender, receiving, posting}
+use Rattle.ds_model.specs.Access.{InBox, access}
+use Rattle.ds_model.specs.Examples.OneHost.{only_key, other_key, new_conn}
+use Rattle.ds_model.specs.Examples.TwoHosts.{letter, letter_lane, toy_scheme, receiver, sender, receiving, posting}
 use Rattle.ds_delivery.specs.Delivered.{Premises}
 
 -- the letter is the one message that has a spelling
@@ -41,7 +41,7 @@ letter_scheme = record toy_scheme {
 
 -- the lane's own connection, and a link to the same host
 abbrev pub two_ways : Plan
-two_ways = record { hosts = receiver ∷ sender ∷ []; wires = record { host = 0; source = OfLane 1 0 } ∷ record { host = 0; source = Link } ∷ [] }
+two_ways = record { hosts = receiver ∷ sender ∷ []; conn_plans = record { host = 0; source = OfLane 1 0 } ∷ record { host = 0; source = Link } ∷ [] }
 
 -- the world at the start
 abbrev pub before_both : World
@@ -60,9 +60,9 @@ abbrev pub by_link : List Event
 by_link = sent ++ (Copy 1 0 0 3 ∷ Arrive 1 3 ∷ Accept 1 ∷ Accept 1 ∷ Deliver 1 ∷ [])
 
 -- both runs meet the premises
-abbrev pub IsMet : List Event → Type 0
-IsMet events = Premises letter_scheme is_letter two_ways before_both events
+abbrev pub PremisesHold : List Event → Type 0
+PremisesHold events = Premises letter_scheme is_letter two_ways before_both events
 
 -- and at their ends a delivery puts the letter into the mailbox
 abbrev pub IsPut : List Event → Event → Type 0
-IsPut before e = touch letter_scheme two_ways (run letter_scheme two_ways before_both before) e 0 ≡ InBox 0 (PutIn (mail_of other_key letter))
+IsPut before e = access letter_scheme two_ways (run letter_scheme two_ways before_both before) e 0 ≡ InBox 0 (PutIn (mail_of other_key letter))

@@ -3,9 +3,9 @@ use Rattle.std.specs.Prelude.{◌≡◌, ◌≢◌, ◌≤◌, ℕ, Bool, true, 
 use Rattle.ds_cert.specs.declared.lane.LaneCert.{LaneCert}
 use Rattle.ds_msg.specs.declared.message.Message.{Message}
 use Rattle.ds_model.specs.Scheme.{Scheme, Item, Hello, Framed}
-use Rattle.ds_model.specs.Plan.{HostPlan, LanePlan, Plan, OfLane, IsLane, host_plan, wire, lane_plan}
+use Rattle.ds_model.specs.Plan.{HostPlan, LanePlan, Plan, OfLane, IsLane, host_plan, conn_plan, lane_plan}
 use Rattle.ds_model.specs.Lane.{frame_limit}
-use Rattle.ds_model.specs.Connecting.{peer}
+use Rattle.ds_model.specs.ConnectionStep.{peer}
 use Rattle.ds_model.specs.World.{Process, Queue, Worker, Conn, Host, World}
 use Rattle.ds_model.specs.Step.{Event, run}
 
@@ -48,7 +48,7 @@ pub record IsReadable (s : Scheme) (has_spelling : Message → Bool) (plan : Pla
 -- SETUP: the connection of a lane is that of a lane of the plan; nothing is judged, waits, is in hand or is passed; and each
 -- lane's stream is its hello
 pub record AtSetup (s : Scheme) (plan : Plan) (w : World) : Type 0 where
-  pub wires : (k h l : ℕ) → (wire plan k).source ≡ OfLane h l → IsLane plan h l
+  pub conn_plans : (k h l : ℕ) → (conn_plan plan k).source ≡ OfLane h l → IsLane plan h l
   pub procs : (h : ℕ) (x : Host) (p : ℕ) (y : Process) → slice_get w.hosts h ≡ Some x → slice_get x.procs p ≡ Some y → y.hand ≡ None
   pub queues : (h : ℕ) (x : Host) (l : ℕ) (q : Queue) → slice_get w.hosts h ≡ Some x → slice_get x.queues l ≡ Some q → q ≡ []
   pub workers : (h : ℕ) (x : Host) (l : ℕ) (e : Worker) → slice_get w.hosts h ≡ Some x → slice_get x.workers l ≡ Some e → (e.hand ≡ []) × (e.stream ≡ s.hello (lane_plan (host_plan plan h) l).cert)

@@ -4,12 +4,12 @@ use Rattle.ds_label.specs.declared.category.Category.{Category}
 use Rattle.ds_cert.specs.declared.lane.LaneCert.{LaneCert}
 use Rattle.ds_msg.specs.declared.message.Message.{Message}
 use Rattle.ds_model.specs.Scheme.{Scheme}
-use Rattle.ds_model.specs.Plan.{Plan, wire}
+use Rattle.ds_model.specs.Plan.{Plan, conn_plan}
 use Rattle.ds_model.specs.Mailbox.{PutIn}
 use Rattle.ds_model.specs.World.{Mail, World, Passed}
-use Rattle.ds_model.specs.Asking.{mail_of}
+use Rattle.ds_model.specs.ProcessStep.{mail_of}
 use Rattle.ds_model.specs.Step.{Event, run}
-use Rattle.ds_model.specs.Touch.{InBox, touch}
+use Rattle.ds_model.specs.Access.{InBox, access}
 use Rattle.ds_model.specs.Lawful.{PutsHere, PutsFrom}
 
 -- a connection to the host puts it there
@@ -17,11 +17,11 @@ pub record IsFrom (s : Scheme) (plan : Plan) (start : World) (h b : ℕ) (mail :
   pub conn : ℕ
   pub lane : LaneCert
   pub passed : Passed
-  pub to : (wire plan conn).host ≡ h
+  pub to : (conn_plan plan conn).host ≡ h
   pub says : mail ≡ passed.mail
   pub puts : PutsFrom s plan start conn b lane passed before e
 
 -- whatever message an event of a run puts into a mailbox, a process of the host puts it there, or a connection does
 abbrev pub EachIsPut : Type 0
 EachIsPut = (s : Scheme) (plan : Plan) (start : World) (before : List Event) (e : Event) (h b : ℕ) (mail : Mail Category) →
-    touch s plan (run s plan start before) e h ≡ InBox b (PutIn mail) → ((p : ℕ) × PutsHere s plan start h p b mail before e) ⊎ IsFrom s plan start h b mail before e
+    access s plan (run s plan start before) e h ≡ InBox b (PutIn mail) → ((p : ℕ) × PutsHere s plan start h p b mail before e) ⊎ IsFrom s plan start h b mail before e

@@ -5,7 +5,7 @@
 ghost use Rattle.ds_delivery.specs.Delivered.{DeliveredLawfully};
 ghost use Rattle.ds_delivery.specs.Puts.{EachIsPut};
 ghost use Rattle.ds_delivery.specs.Checked.{EachChecked};
-ghost use Rattle.ds_delivery.specs.Example.{by_lane, by_link, IsMet, IsPut};
+ghost use Rattle.ds_delivery.specs.Example.{by_lane, by_link, PremisesHold, IsPut};
 ghost use Rattle.ds_model.specs.Step.{Deliver};
 
 /// In each run from setup, over a scheme that reads what was written, each message that an event puts into a mailbox was
@@ -29,8 +29,8 @@ pub fn five_checks()
 /// Two runs that meet the premises, computed: a letter is delivered from a lane's own connection, and over a link on which
 /// an outsider wrote a copy of the lane's stream.
 pub fn an_example()
-    ensures lane_met { IsMet by_lane }
+    ensures lane_met { PremisesHold by_lane }
     ensures lane_put { IsPut by_lane (Deliver 0) }
-    ensures link_met { IsMet by_link }
+    ensures link_met { PremisesHold by_link }
     ensures link_put { IsPut by_link (Deliver 1) }
 {}

@@ -22,7 +22,7 @@ use Rattle.ds_desk.specs.declared.act.DeskEntry.{DeskEntry}
 use Rattle.ds_desk.specs.Signing.{desk_scheme, desk_plan, key_of, signing_of, with_signature}
 use Rattle.ds_cert.specs.declared.delegation.Delegation.{Delegation}
 use Rattle.ds_cert.specs.Spelling.{signed_part_of_delegation, spelling_of_delegation, spelling_of_signature}
-use Rattle.ds_desk.specs.Desks.{Kept, IsReplay, MayStand, desk_then, change_of, act_of, entry_of, stamp_of, history_step, entered}
+use Rattle.ds_desk.specs.Desks.{DeskView, IsReplay, MayStand, desk_then, change_of, act_of, entry_of, stamp_of, history_step, entered}
 
 -- the model's entry is an act's, and the act is its
 change_again : (change : Change) → change_of (act_of change) ≡ change
@@ -41,7 +41,7 @@ may_stand s plan stamp who change desk may = rw (change_again change, may) refl
 pub last_entered : (base : ℕ) (history now : List DeskEntry) (e : DeskEntry) → now ≡ history ++ e ∷ [] → last_of stamp_of base now ≡ e.stamp
 last_entered base history now e is = ap (last_of stamp_of base) is ∙ last_of-push stamp_of base history e
 
-pub grown : (k : Kept) (stamp : ℕ) (who : Actor) (change : Change) → IsReplay k → last_of stamp_of k.opening.before k.history < stamp → MayStand k change → IsReplay (entered stamp who change k)
+pub grown : (k : DeskView) (stamp : ℕ) (who : Actor) (change : Change) → IsReplay k → last_of stamp_of k.opening.before k.history < stamp → MayStand k change → IsReplay (entered stamp who change k)
 grown k stamp who change is later may =
     let e = entry_of stamp who change in
     record {

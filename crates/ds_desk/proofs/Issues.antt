@@ -9,7 +9,7 @@ use Rattle.ds_label.specs.declared.rule.Rule.{Rule}
 use Rattle.ds_label.specs.declared.rule.Rule.TheVariants.{StoreFull, KeySpent}
 use Rattle.ds_script.specs.declared.actor.Actor.{Actor}
 use Rattle.ds_cert.specs.declared.delegation.Delegation.{Delegation}
-use Rattle.ds_cert.specs.Kept.{with_delegation}
+use Rattle.ds_cert.specs.NoDoubles.{with_delegation}
 use Rattle.ds_model.specs.FirstRule.{unless, first_rule}
 use Rattle.ds_model.specs.Scheme.{Scheme}
 use Rattle.ds_model.specs.Plan.{HostPlan}
@@ -17,15 +17,15 @@ use Rattle.ds_model.specs.Desk.{Delegated, Delegating, store_limit, entry_unless
 use Rattle.ds_model.proofs.Needs.{act_may}
 use Rattle.ds_desk.specs.declared.state.DeskState.{DeskState}
 use Rattle.ds_desk.specs.Signing.{desk_scheme, desk_plan, key_of, signing_of, signed_at}
-use Rattle.ds_desk.specs.Desks.{Kept, MayStand, kept_of, entered, entry_of}
-use Rattle.ds_desk.specs.Answered.{entry_for}
+use Rattle.ds_desk.specs.Desks.{DeskView, MayStand, kept_of, entered, entry_of}
+use Rattle.ds_desk.specs.Replies.{entry_for}
 use Rattle.ds_desk.proofs.Grows.{key_again}
 
 -- the rules of a delegation
-abbrev pub delegate_rule : Kept → Key → Option Rule
+abbrev pub delegate_rule : DeskView → Key → Option Rule
 delegate_rule k key = first_rule (unless (nat_lt (length k.desk.store) store_limit) StoreFull ∷ unless (nat_lt k.desk.leaf (leaves_of key)) KeySpent ∷ [])
 
-module _ (k : Kept) (c : Category) (to : PubKey) (from until : ℕ) (none : delegate_rule k k.key ≡ None) where
+module _ (k : DeskView) (c : Category) (to : PubKey) (from until : ℕ) (none : delegate_rule k k.key ≡ None) where
   -- the entry, by a key
   abbrev entry_by : Key → Change
   entry_by key = entry_unless (delegate_rule k key) (Delegated (signed_at key k.desk.leaf k.here c to from until))

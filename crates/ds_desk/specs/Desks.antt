@@ -8,15 +8,15 @@ use Rattle.ds_script.specs.Replay.{replay, last_of, rises}
 use Rattle.ds_model.specs.Scheme.{Scheme}
 use Rattle.ds_model.specs.Plan.{HostPlan}
 use Rattle.ds_model.specs.Desk.{Desk, desk_after, desk_needs, desk_step, Ticked, Delegated, Imported, Mapped, Looked, Denied, DeskEntry as Change}
-use Rattle.ds_desk.specs.declared.act.DeskAct.{DeskAct}
-use Rattle.ds_desk.specs.declared.act.DeskAct.TheVariants as acts
+use Rattle.ds_desk.specs.declared.act.DeskChange.{DeskChange}
+use Rattle.ds_desk.specs.declared.act.DeskChange.TheVariants as acts
 use Rattle.ds_desk.specs.declared.act.DeskEntry.{DeskEntry}
 use Rattle.ds_desk.specs.declared.opening.DeskOpening.{DeskOpening}
 use Rattle.ds_desk.specs.declared.state.DeskState.{DeskState}
 use Rattle.ds_desk.specs.Signing.{desk_scheme, desk_plan}
 
 -- an entry's act is the model's entry
-abbrev pub change_of : DeskAct → Change
+abbrev pub change_of : DeskChange → Change
 change_of acts.Look = Looked
 change_of (acts.Tick to) = Ticked to
 change_of (acts.Delegated d) = Delegated d
@@ -24,7 +24,7 @@ change_of (acts.Imported c) = Imported c
 change_of (acts.Mapped c) = Mapped c
 change_of (acts.Refused rule) = Denied rule
 
-abbrev pub act_of : Change → DeskAct
+abbrev pub act_of : Change → DeskChange
 act_of Looked = acts.Look
 act_of (Ticked to) = acts.Tick to
 act_of (Delegated d) = acts.Delegated d
@@ -40,7 +40,7 @@ stamp_of entry = entry.stamp
 
 -- A host's key, its signer's, and the host of its table; the desk now, its opening, and the entries since. What is left out is
 -- the room that lists have taken.
-pub record Kept : Type 0 where
+pub record DeskView : Type 0 where
   pub here : PubKey
   pub key : Key
   pub table : PubKey
@@ -56,7 +56,7 @@ desk_of s = record { moment = s.moment; rows = s.table.rows; store = s.store.ite
 abbrev pub desk_then : DeskOpening → Desk
 desk_then o = record { moment = o.moment; rows = o.table.rows; store = o.store.items; addresses = o.addresses.items; issued = o.issued.items; leaf = o.leaf }
 
-abbrev pub kept_of : DeskState → Kept
+abbrev pub kept_of : DeskState → DeskView
 kept_of s = record { here = s.here; key = s.signer.key; table = s.table.here; desk = desk_of s; opening = s.opening; history = s.history.items }
 
 -- the stamp of the last entry, or of the last one before the opening
@@ -64,7 +64,7 @@ abbrev pub last_stamp : DeskState → ℕ
 last_stamp s = last_of stamp_of s.opening.before s.history.items
 
 -- whether an entry may stand, and the desk after it, whatever else a scheme and a plan say
-abbrev pub MayStand : Kept → Change → Type 0
+abbrev pub MayStand : DeskView → Change → Type 0
 MayStand k change = (s : Scheme) (plan : HostPlan) → desk_needs (desk_scheme s) (desk_plan plan k.here k.key) change k.desk ≡ true
 
 abbrev pub history_step : Scheme → HostPlan → Desk → DeskEntry → Option Desk
@@ -72,7 +72,7 @@ history_step s plan desk entry = desk_step s plan desk (change_of entry.act)
 
 -- The desk is the replay of its history, each entry where it may stand; the stamps rise; the signer's public key is the host's,
 -- and the table was made for it.
-pub record IsReplay (k : Kept) : Type 0 where
+pub record IsReplay (k : DeskView) : Type 0 where
   pub replays : (s : Scheme) (plan : HostPlan) → replay (history_step (desk_scheme s) (desk_plan plan k.here k.key)) (desk_then k.opening) k.history ≡ Some k.desk
   pub rises : rises stamp_of k.opening.before k.history ≡ true
   pub signer : k.here.0 ≡ public_key k.key.params k.key.seed k.key.id
@@ -83,5 +83,5 @@ abbrev pub IsKept : DeskState → Type 0
 IsKept s = IsReplay (kept_of s)
 
 -- after an entry
-abbrev pub entered : ℕ → Actor → Change → Kept → Kept
+abbrev pub entered : ℕ → Actor → Change → DeskView → DeskView
 entered stamp who change k = record k { desk = desk_after k.here change k.desk; history = k.history ++ entry_of stamp who change ∷ [] }

@@ -1,3 +1,3 @@
 pub mod Signing
 pub mod Desks
-pub mod Answered
+pub mod Replies

@@ -7,7 +7,7 @@ use ds_script::Actor;
 
 /// What a call did.
 #[derive(Debug, Drop)]
-pub enum DeskAct {
+pub enum DeskChange {
     /// A judgement read the desk.
     Look,
     /// The moment became the greater of itself and `to`.
@@ -33,5 +33,5 @@ pub struct DeskEntry {
     /// The actor whose event it is.
     pub who: Actor,
     /// What the call did.
-    pub act: DeskAct,
+    pub act: DeskChange,
 }

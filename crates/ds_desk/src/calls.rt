@@ -5,7 +5,7 @@ ghost use Rattle.std.specs.Prelude.{◌≡◌, ◌<◌, ◌≤◌, OnOk, OnErr, 
 ghost use Rattle.ds_model.specs.Desk.{Ticked, Looked, Denied};
 ghost use Rattle.ds_desk.specs.Desks.{IsKept, MayStand, kept_of, last_stamp, entered};
 
-use crate::act::{DeskAct, DeskEntry};
+use crate::act::{DeskChange, DeskEntry};
 use crate::state::DeskState;
 use ds_label::Rule;
 use ds_script::Actor;
@@ -24,7 +24,7 @@ impl DeskState {
         ensures last { last_stamp self.new ≤ stamp }
     {
         self.history.reserve()?;
-        let act = DeskAct::Tick { to };
+        let act = DeskChange::Tick { to };
         self.history.enter(DeskEntry { stamp, who, act });
         self.moment = self.moment.max(to);
         Ok(())
@@ -39,7 +39,7 @@ impl DeskState {
         ensures kept { IsKept self.new }
         ensures last { last_stamp self.new ≤ stamp }
     {
-        let act = DeskAct::Look;
+        let act = DeskChange::Look;
         self.history.enter(DeskEntry { stamp, who, act });
     }
 
@@ -53,7 +53,7 @@ impl DeskState {
         ensures kept { IsKept self.new }
         ensures last { last_stamp self.new ≤ stamp }
     {
-        let act = DeskAct::Refused(rule);
+        let act = DeskChange::Refused(rule);
         self.history.enter(DeskEntry { stamp, who, act });
     }
 }

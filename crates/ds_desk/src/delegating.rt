@@ -7,16 +7,16 @@ ghost use Rattle.ds_base.specs.Marks.{Raised, MayBeRaised};
 ghost use Rattle.lms_state.specs.Once.{Traced};
 ghost use Rattle.lms_state.specs.Signers.{leaves_of, next_signature, one_leaf_on};
 ghost use Rattle.ds_label.specs.declared.rule.Rule.TheVariants as rules;
-ghost use Rattle.ds_cert.specs.Kept.{with_delegation};
+ghost use Rattle.ds_cert.specs.NoDoubles.{with_delegation};
 ghost use Rattle.ds_cert.specs.Ranges.{DelegationRange};
 ghost use Rattle.ds_model.specs.Scheme.{Scheme};
 ghost use Rattle.ds_model.specs.Plan.{HostPlan};
 ghost use Rattle.ds_model.specs.FirstRule.{unless, first_rule};
 ghost use Rattle.ds_model.specs.Desk.{Delegating, Made, Delegated, store_limit};
 ghost use Rattle.ds_desk.specs.Desks.{IsKept, kept_of, last_stamp, entered, entry_of};
-ghost use Rattle.ds_desk.specs.Answered.{AnswersOver, EntersOver, entry_for, reply_for};
+ghost use Rattle.ds_desk.specs.Replies.{AnswersOver, EntersOver, entry_for, reply_for};
 
-use crate::act::{DeskAct, DeskEntry};
+use crate::act::{DeskChange, DeskEntry};
 use crate::draft::{Signed, draft_of, signed_of};
 use crate::fault::DeskFault;
 use crate::importing::keep_delegation;
@@ -157,7 +157,7 @@ impl DeskState {
         } = made;
         keep_delegation(&mut self.store, kept);
         self.issued.push_reserved(issued);
-        let act = DeskAct::Delegated(entered);
+        let act = DeskChange::Delegated(entered);
         self.history.enter(DeskEntry { stamp, who, act });
         spelling
     }

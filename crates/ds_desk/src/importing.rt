@@ -5,16 +5,16 @@ ghost use Rattle.std.specs.Prelude.{◌≡◌, ◌<◌, ◌≤◌, ◌||◌, [],
 ghost use Rattle.ds_label.specs.declared.rule.Rule.TheVariants as rules;
 ghost use Rattle.ds_cert.specs.declared.cert.Cert.TheVariants as certs;
 ghost use Rattle.ds_cert.specs.Good.{is_good_delegation, is_good_address};
-ghost use Rattle.ds_cert.specs.Kept.{is_kept, is_kept_address, with_delegation, with_address};
+ghost use Rattle.ds_cert.specs.NoDoubles.{is_kept, is_kept_address, with_delegation, with_address};
 ghost use Rattle.ds_cert.specs.Ranges.{DelegationRange, AddressRange};
 ghost use Rattle.ds_model.specs.Scheme.{Scheme};
 ghost use Rattle.ds_model.specs.Plan.{HostPlan};
 ghost use Rattle.ds_model.specs.FirstRule.{unless, first_rule};
 ghost use Rattle.ds_model.specs.Desk.{Importing, Done, store_limit, address_limit};
 ghost use Rattle.ds_desk.specs.Desks.{IsKept, kept_of, last_stamp, entered};
-ghost use Rattle.ds_desk.specs.Answered.{Answers, Enters, entry_for, reply_for, import_for, reply_to};
+ghost use Rattle.ds_desk.specs.Replies.{Answers, Enters, entry_for, reply_for, import_for, reply_to};
 
-use crate::act::{DeskAct, DeskEntry};
+use crate::act::{DeskChange, DeskEntry};
 use crate::fault::EntryFault;
 use crate::state::DeskState;
 use ds_cert::{Address, Cert, CertFault, Delegation};
@@ -127,7 +127,7 @@ impl DeskState {
         let copy = new.copy()?;
         self.store.reserve()?;
         keep_delegation(&mut self.store, new);
-        let act = DeskAct::Imported(Cert::Delegation(copy));
+        let act = DeskChange::Imported(Cert::Delegation(copy));
         self.history.enter(DeskEntry { stamp, who, act });
         Ok(())
     }
@@ -151,7 +151,7 @@ impl DeskState {
         let copy = new.copy()?;
         self.addresses.reserve()?;
         keep_address(&mut self.addresses, new);
-        let act = DeskAct::Imported(Cert::Address(copy));
+        let act = DeskChange::Imported(Cert::Address(copy));
         self.history.enter(DeskEntry { stamp, who, act });
         Ok(())
     }

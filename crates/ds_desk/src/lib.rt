@@ -15,7 +15,7 @@ mod mapping;
 mod opening;
 mod state;
 
-pub use act::{DeskAct, DeskEntry};
+pub use act::{DeskChange, DeskEntry};
 pub use fault::{DeskFault, EntryFault};
 pub use history::DeskHistory;
 pub use issued::IssuedList;

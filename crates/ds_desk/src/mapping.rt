@@ -10,9 +10,9 @@ ghost use Rattle.ds_model.specs.Mapping.{is_known, number_of, row_limit, with_ro
 ghost use Rattle.ds_model.specs.Desk.{Mapping, Local};
 ghost use Rattle.ds_map.specs.Table.{is_stray};
 ghost use Rattle.ds_desk.specs.Desks.{IsKept, kept_of, last_stamp, entered};
-ghost use Rattle.ds_desk.specs.Answered.{Answers, Enters, Ruled, entry_for, reply_for};
+ghost use Rattle.ds_desk.specs.Replies.{Answers, Enters, Ruled, entry_for, reply_for};
 
-use crate::act::{DeskAct, DeskEntry};
+use crate::act::{DeskChange, DeskEntry};
 use crate::fault::EntryFault;
 use crate::state::DeskState;
 use ds_label::{Category, Rule};
@@ -57,7 +57,7 @@ impl DeskState {
         self.history.reserve()?;
         match mapped(&mut self.table, name) {
             Ok(local) => {
-                let act = DeskAct::Mapped(name);
+                let act = DeskChange::Mapped(name);
                 self.history.enter(DeskEntry { stamp, who, act });
                 Ok(local)
             }

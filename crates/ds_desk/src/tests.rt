@@ -4,7 +4,7 @@
 ghost use Rattle.std.specs.Prelude.{◌≡◌, ◌<◌, ◌≤◌, IfOk};
 ghost use Rattle.ds_desk.specs.Desks.{IsKept, last_stamp};
 
-use crate::{DeskAct, DeskEntry, DeskFault, DeskState, EntryFault, IssuedList};
+use crate::{DeskChange, DeskEntry, DeskFault, DeskState, EntryFault, IssuedList};
 use ds_base::{Keeper, MemKeeper};
 use ds_cert::Delegation;
 use ds_chain::{AddressList, CertList};
@@ -89,7 +89,7 @@ fn is_tick(desk: &DeskState, place: usize, moment: u64) -> bool {
     match desk.history.as_slice().get(place) {
         Some(
             DeskEntry {
-                act: DeskAct::Tick { to },
+                act: DeskChange::Tick { to },
                 ..
             },
         ) => *to == moment,
@@ -102,7 +102,7 @@ fn is_refused(desk: &DeskState, count: usize, by: Rule) -> bool {
     match desk.history.as_slice().last() {
         Some(
             DeskEntry {
-                act: DeskAct::Refused(rule),
+                act: DeskChange::Refused(rule),
                 ..
             },
         ) => *rule == by && desk.history.len() == count,

@@ -10,9 +10,9 @@ use Rattle.ds_label.specs.Names.{by_name}
 use Rattle.ds_label.proofs.Members.{same-is}
 use Rattle.ds_label.proofs.Namings.{names}
 use Rattle.ds_cert.specs.declared.delegation.Delegation.{Delegation}
-use Rattle.ds_cert.specs.Kept.{same_delegation, is_kept, with_delegation}
-use Rattle.ds_chain.specs.declared.hop.Hop.{Hop}
-use Rattle.ds_chain.specs.Chain.{IsHop, LeadsTo}
+use Rattle.ds_cert.specs.NoDoubles.{same_delegation, is_kept, with_delegation}
+use Rattle.ds_chain.specs.declared.edge.Edge.{Edge}
+use Rattle.ds_chain.specs.Chain.{IsEdge, LeadsTo}
 use Rattle.ds_chain.specs.Delegated.{hop_of, hops_of_list, key_holds}
 use Rattle.ds_chain.specs.Keys.{same_key}
 use Rattle.ds_chain.proofs.Holdings.{closed_list_has_holders, chain_of_holder, holds_by_chain}
@@ -148,30 +148,30 @@ all_cases kept (d ∷ xs) y c = go (all_cases (with_delegation d kept) xs y c)
 
 -- who holds
 
-led_on : {K : Type 0} (hops : List (Option (Hop K))) (a : K) (places : List ℕ) (b : K) (place : ℕ) (c : K) → LeadsTo hops a places b → IsHop hops place b c → LeadsTo hops a (places ++ place ∷ []) c
-led_on hops a [] b place c p h = (c, subst (λ z. IsHop hops place z c) (sym p) h, refl)
-led_on hops a (q ∷ places) b place c (next, h', p) h = (next, h', led_on hops next places b place c p h)
+led_on : {K : Type 0} (edges : List (Option (Edge K))) (a : K) (places : List ℕ) (b : K) (place : ℕ) (c : K) → LeadsTo edges a places b → IsEdge edges place b c → LeadsTo edges a (places ++ place ∷ []) c
+led_on edges a [] b place c p h = (c, subst (λ z. IsEdge edges place z c) (sym p) h, refl)
+led_on edges a (q ∷ places) b place c (next, h', p) h = (next, h', led_on edges next places b place c p h)
 
 -- more delegations, in any order, leave each holder a holder
 pub more_hold : (first second : List Delegation) (moment : ℕ) (c : Category) → ((d : Delegation) → Contains first d → Contains second d)
     → (key : PubKey) → key_holds first moment c key ≡ true → key_holds second moment c key ≡ true
 more_hold first second moment c inside key e =
     closed_list_has_holders same_key same_key_is (hop_of moment c) first c.creator (λ k. key_holds second moment c k ≡ true)
-    (holds_by_chain same_key same_key_is hops c.creator c.creator [] refl) go key e
+    (holds_by_chain same_key same_key_is edges c.creator c.creator [] refl) go key e
   where
-    hops : List (Option (Hop PubKey))
-    hops = hops_of_list moment c second
+    edges : List (Option (Edge PubKey))
+    edges = hops_of_list moment c second
 
-    hop_at : (cert : Delegation) (hop : Hop PubKey) → hop_of moment c cert ≡ Some hop → (k : ℕ) → slice_get second k ≡ Some cert → IsHop hops k hop.by hop.to
-    hop_at cert hop q k s = slice_get-map (hop_of moment c) second k ∙ ap (option_map (hop_of moment c)) s ∙ ap Some q
+    hop_at : (cert : Delegation) (edge : Edge PubKey) → hop_of moment c cert ≡ Some edge → (k : ℕ) → slice_get second k ≡ Some cert → IsEdge edges k edge.by edge.to
+    hop_at cert edge q k s = slice_get-map (hop_of moment c) second k ∙ ap (option_map (hop_of moment c)) s ∙ ap Some q
 
-    led : (hop : Hop PubKey) (k : ℕ) → IsHop hops k hop.by hop.to → (places : List ℕ) × LeadsTo hops c.creator places hop.by → key_holds second moment c hop.to ≡ true
-    led hop k h (places, p) = holds_by_chain same_key same_key_is hops c.creator hop.to (places ++ k ∷ []) (led_on hops c.creator places hop.by k hop.to p h)
+    led : (edge : Edge PubKey) (k : ℕ) → IsEdge edges k edge.by edge.to → (places : List ℕ) × LeadsTo edges c.creator places edge.by → key_holds second moment c edge.to ≡ true
+    led edge k h (places, p) = holds_by_chain same_key same_key_is edges c.creator edge.to (places ++ k ∷ []) (led_on edges c.creator places edge.by k edge.to p h)
 
-    go : (cert : Delegation) → Contains first cert → (hop : Hop PubKey) → hop_of moment c cert ≡ Some hop → key_holds second moment c hop.by ≡ true → key_holds second moment c hop.to ≡ true
-    go cert there hop q by =
+    go : (cert : Delegation) → Contains first cert → (edge : Edge PubKey) → hop_of moment c cert ≡ Some edge → key_holds second moment c edge.by ≡ true → key_holds second moment c edge.to ≡ true
+    go cert there edge q by =
         let (k, below, at) = inside cert there in
-        led hop k (hop_at cert hop q k (slice_get-get_or second k cert below ∙ ap Some at)) (chain_of_holder same_key same_key_is hops c.creator hop.by by)
+        led edge k (hop_at cert edge q k (slice_get-get_or second k cert below ∙ ap Some at)) (chain_of_holder same_key same_key_is edges c.creator edge.by by)
 
 pub both : (a b : Bool) → (a ≡ true → b ≡ true) → (b ≡ true → a ≡ true) → a ≡ b
 both true b f g = sym (f refl)

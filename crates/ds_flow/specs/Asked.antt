@@ -9,7 +9,7 @@ use Rattle.ds_label.specs.Names.{is_secrecy, by_name}
 use Rattle.ds_cert.specs.declared.delegation.Delegation.{Delegation}
 use Rattle.ds_cert.specs.declared.address.Address.{Address}
 use Rattle.ds_cert.specs.declared.lane.LaneCert.{LaneCert}
-use Rattle.ds_cert.specs.Kept.{with_delegation}
+use Rattle.ds_cert.specs.NoDoubles.{with_delegation}
 use Rattle.ds_cert.specs.Reading.{read_cert}
 use Rattle.ds_cert.specs.Spelling.{spelling_of_delegation}
 use Rattle.ds_msg.specs.declared.message.Message.{Message}

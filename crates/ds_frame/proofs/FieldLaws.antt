@@ -9,7 +9,7 @@ use Rattle.ds_cert.specs.Laws.{Takes, IsSpelling}
 use Rattle.ds_cert.proofs.Steps.{bind_ok, bind_is, guard_err, ok_is, takes}
 use Rattle.ds_cert.proofs.FieldLaws.{IsWithin}
 use Rattle.ds_frame.specs.declared.cause.Cause.{Cause}
-use Rattle.ds_frame.specs.Fields.{Stop, Broken, field, number_from}
+use Rattle.ds_frame.specs.Fields.{ReadFault, Broken, field, number_from}
 
 pub field_ok : {A : Type 0} (o : Option (A × List ℕ)) (x : A × List ℕ) → field o ≡ Ok x → o ≡ Some x
 field_ok None x e = absurd cc
@@ -20,7 +20,7 @@ field_is None x e = absurd cc
 field_is (Some y) x e = cc
 
 -- any number of four bytes
-abbrev pub number_field : List ℕ → Result (ℕ × List ℕ) Stop
+abbrev pub number_field : List ℕ → Result (ℕ × List ℕ) ReadFault
 number_field bytes = field (number_at w32 bytes)
 
 abbrev pub IsLong : ℕ → Type 0
@@ -35,7 +35,7 @@ is_long = record {
 }
 
 module _ (w : Width) (limit : ℕ) (wide : IsWide w limit) (low high : ℕ) (below : high < limit) (cause : Cause) (offset : ℕ) where
-  abbrev tested : ℕ × List ℕ → Result (ℕ × List ℕ) Stop
+  abbrev tested : ℕ × List ℕ → Result (ℕ × List ℕ) ReadFault
   tested x = cond (ltb x.0 low) (Err (Broken cause offset)) (cond (ltb high x.0) (Err (Broken cause offset)) (Ok x))
 
   from_spelt : (bytes : List ℕ) (n : ℕ) (rest : List ℕ) → IsBytes bytes → number_from w low high cause offset bytes ≡ Ok (n, rest) → Takes bytes (to_be_bytes w n) rest × IsWithin low high n

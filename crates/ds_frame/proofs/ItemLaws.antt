@@ -21,7 +21,7 @@ use Rattle.ds_frame.specs.declared.item.Item.{Item}
 use Rattle.ds_frame.specs.declared.item.Item.TheVariants as items
 use Rattle.ds_frame.specs.Bodies.{split}
 use Rattle.ds_frame.specs.Checks.{is_good, is_good_lane_cert, checked_cert, begins_with, checked_bodies, read_hello, read_frame, read_item}
-use Rattle.ds_frame.specs.Fields.{Stop, Broken}
+use Rattle.ds_frame.specs.Fields.{ReadFault, Broken}
 use Rattle.ds_frame.specs.Laws.{IsHello, IsFrame, StartsWithHello, StartsWithFrame, StartsWith}
 use Rattle.ds_frame.specs.Outer.{read_outer_hello, read_outer_frame}
 use Rattle.ds_frame.specs.Ranges.{OuterFrameFits, BodiesRange}
@@ -53,7 +53,7 @@ cert_spelt cert lane fits e = cases (read_lane_cert cert) refl e
     good : (found : LaneCert) (b : Bool) → read_lane_cert cert ≡ Ok found → is_good_lane_cert found ≡ b → cond b (Ok found) (Err (Broken causes.HelloSignature 6)) ≡ Ok lane → IsCert cert lane
     good found true f g h =
         let spelt = found_whole LaneCertFits spelling_of_lane_cert lane_cert_at is_lane_cert LaneCertFits (λ x fits. fits) cert (Ok found) fits f in
-        subst (λ (l : LaneCert). IsCert cert l) (ok_is {E = Stop} found lane h)
+        subst (λ (l : LaneCert). IsCert cert l) (ok_is {E = ReadFault} found lane h)
         (record { hello = record { fits = spelt.0; good = good_from_test found.exporter.0 (signed_part_of_lane_cert found) found.signature g }; spelled = spelt.1 })
     good found false f g h = absurd cc
 
@@ -68,7 +68,7 @@ hello_starts bytes x fits e =
     let t = is_outer_hello.spelled_so bytes b.0.0 b.0.1 fits b.1 in
     let c = bind_ok (checked_cert (read_lane_cert b.0.0)) (λ (lane : LaneCert). Ok (lane, b.0.1)) x b.2 in
     let cert = cert_spelt b.0.0 c.0 (cert_bytes b.0.0 (IsBytes-front (outer_spelling_of_hello b.0.0) b.0.1 (subst IsBytes t.0.parts fits))) c.1 in
-    subst (λ (y : LaneCert × List ℕ). StartsWithHello y.0 bytes y.1) (ok_is {E = Stop} (c.0, b.0.1) x c.2)
+    subst (λ (y : LaneCert × List ℕ). StartsWithHello y.0 bytes y.1) (ok_is {E = ReadFault} (c.0, b.0.1) x c.2)
     (record { hello = cert.hello; parts = t.0.parts ∙ ap (λ (spelled : List ℕ). outer_spelling_of_hello spelled ++ b.0.1) cert.spelled })
 
 cert_again : (lane : LaneCert) → LaneCertFits lane → read_lane_cert (spelling_of_lane_cert lane) ≡ Ok lane
@@ -126,7 +126,7 @@ frame_checked key o frame fits bytes e = cases (split o.messages o.body) refl e
     signed bodies true true is f g h =
         let good : IsGood key.0 (part_of_frame o.number bodies) o.signature = subst (λ (part : List ℕ). IsGood key.0 part o.signature) (fields_split o bodies is) (good_from_test key.0 (signed_fields o.number o.messages o.body) o.signature g) in
         let frame_is : Frame = record { number = o.number; bodies = bodies } in
-        subst (λ (x : Frame). IsChecked key o x) (ok_is {E = Stop} frame_is frame h)
+        subst (λ (x : Frame). IsChecked key o x) (ok_is {E = ReadFault} frame_is frame h)
         (record {
           signed = record { number = fits.number; bodies = bodies_range o bodies fits is; size = fits.signature; leaf = (bytes_eq-Decides (take 4 o.signature) (to_be_bytes w32 o.number)).0 f; good = good };
           spelled = ap (λ (part : List ℕ). part ++ spelling_of_signature o.signature) (fields_split o bodies is);
@@ -143,7 +143,7 @@ frame_starts key bytes x fits e =
     let t = is_outer_frame.spelled_so bytes b.0.0 b.0.1 fits b.1 in
     let c = bind_ok (checked_bodies key b.0.0 (split b.0.0.messages b.0.0.body)) (λ (frame : Frame). Ok (frame, b.0.1)) x b.2 in
     let checked = frame_checked key b.0.0 c.0 t.1 (outer_body b.0.0 b.0.1 (subst IsBytes t.0.parts fits)) c.1 in
-    subst (λ (y : Frame × List ℕ). StartsWithFrame key y.0 bytes y.1) (ok_is {E = Stop} (c.0, b.0.1) x c.2)
+    subst (λ (y : Frame × List ℕ). StartsWithFrame key y.0 bytes y.1) (ok_is {E = ReadFault} (c.0, b.0.1) x c.2)
     (record { signature = b.0.0.signature; signed = checked.signed; parts = t.0.parts ∙ ap (λ (spelled : List ℕ). spelled ++ b.0.1) checked.spelled })
 
 frame_fits : (key : PubKey) (frame : Frame) (signature : List ℕ) → IsFrame key frame signature → OuterFrameFits (record { number = frame.number; messages = length frame.bodies; body = spelling_of_bodies frame.bodies; signature = signature })
@@ -166,10 +166,10 @@ pub item_starts : (lane : Option LaneCert) (bytes : List ℕ) (x : Item × List 
 unfolding read_item
 item_starts None bytes x fits e =
     let b = bind_ok (read_hello bytes) (λ (hello : LaneCert × List ℕ). Ok (items.Hello hello.0, hello.1)) x e in
-    subst (λ (y : Item × List ℕ). StartsWith None y.0 bytes y.1) (ok_is {E = Stop} (items.Hello b.0.0, b.0.1) x b.2) (hello_starts bytes b.0 fits b.1)
+    subst (λ (y : Item × List ℕ). StartsWith None y.0 bytes y.1) (ok_is {E = ReadFault} (items.Hello b.0.0, b.0.1) x b.2) (hello_starts bytes b.0 fits b.1)
 item_starts (Some lane) bytes x fits e =
     let b = bind_ok (read_frame lane.key bytes) (λ (frame : Frame × List ℕ). Ok (items.Frame frame.0, frame.1)) x e in
-    subst (λ (y : Item × List ℕ). StartsWith (Some lane) y.0 bytes y.1) (ok_is {E = Stop} (items.Frame b.0.0, b.0.1) x b.2) (frame_starts lane.key bytes b.0 fits b.1)
+    subst (λ (y : Item × List ℕ). StartsWith (Some lane) y.0 bytes y.1) (ok_is {E = ReadFault} (items.Frame b.0.0, b.0.1) x b.2) (frame_starts lane.key bytes b.0 fits b.1)
 
 behind_text : (bytes text rest : List ℕ) → bytes ≡ text ++ rest → drop (length bytes - length rest) bytes ≡ rest
 behind_text bytes text rest e =

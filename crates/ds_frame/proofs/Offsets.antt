@@ -14,9 +14,9 @@ use Rattle.ds_frame.specs.declared.item.Frame.{Frame}
 use Rattle.ds_frame.specs.declared.item.Item.TheVariants as items
 use Rattle.ds_frame.specs.Bodies.{split}
 use Rattle.ds_frame.specs.Checks.{is_good, is_good_lane_cert, checked_cert, begins_with, checked_bodies, read_hello, read_frame, read_item}
-use Rattle.ds_frame.specs.declared.item.Halt.{Halt}
-use Rattle.ds_frame.specs.declared.item.Halt.TheVariants as halts
-use Rattle.ds_frame.specs.Fields.{Halts, IsAmong, Stop, Broken, field, number_from}
+use Rattle.ds_frame.specs.declared.item.ReadFaultOrMemory.{ReadFaultOrMemory}
+use Rattle.ds_frame.specs.declared.item.ReadFaultOrMemory.TheVariants as halts
+use Rattle.ds_frame.specs.Fields.{Halts, IsAmong, ReadFault, Broken, field, number_from}
 use Rattle.ds_frame.specs.Outer.{read_outer_hello, read_outer_frame}
 use Rattle.ds_cert.specs.Spelling.{spelling_of_signature}
 use Rattle.ds_frame.specs.Spelling.{OuterFrame, signed_fields, outer_spelling_of_hello, outer_spelling_of_frame}
@@ -24,14 +24,14 @@ use Rattle.ds_frame.proofs.OuterLaws.{is_outer_hello, is_outer_frame, fields_len
 use Rattle.ds_frame.proofs.Steady.{bind_err, front_length}
 
 -- of a reader whose first byte is that many behind the front's
-abbrev pub IsInside : {A : Type 0} → ℕ → (List ℕ → Result A Stop) → Type 0
+abbrev pub IsInside : {A : Type 0} → ℕ → (List ℕ → Result A ReadFault) → Type 0
 IsInside at reading = (bytes : List ℕ) (cause : Cause) (offset : ℕ) → reading bytes ≡ Err (Broken cause offset) → offset ≤ at + length bytes
 
 -- a field of as many bytes as its value says
-pub record IsField {A : Type 0} (size : A → ℕ) (reading : List ℕ → Result (A × List ℕ) Stop) : Type 0 where
+pub record IsField {A : Type 0} (size : A → ℕ) (reading : List ℕ → Result (A × List ℕ) ReadFault) : Type 0 where
   pub takes : (bytes : List ℕ) (x : A × List ℕ) → reading bytes ≡ Ok x → length bytes ≡ size x.0 + length x.1
 
-module _ {A B : Type 0} (at : ℕ) (size : A → ℕ) (r : List ℕ → Result (A × List ℕ) Stop) (f : A → List ℕ → Result (B × List ℕ) Stop) (is : IsField size r) (first : IsInside at r) (second : (a : A) → IsInside (at + size a) (f a)) where
+module _ {A B : Type 0} (at : ℕ) (size : A → ℕ) (r : List ℕ → Result (A × List ℕ) ReadFault) (f : A → List ℕ → Result (B × List ℕ) ReadFault) (is : IsField size r) (first : IsInside at r) (second : (a : A) → IsInside (at + size a) (f a)) where
   pub inside_then : IsInside at (λ (bytes : List ℕ). r bytes >>= λ (x : A × List ℕ). f x.0 x.1)
   inside_then bytes cause offset e = cases (bind_err (r bytes) (λ (x : A × List ℕ). f x.0 x.1) (Broken cause offset) e)
     where
@@ -62,13 +62,13 @@ run_inside : (n at : ℕ) → IsInside at (λ (bytes : List ℕ). field (bytes_a
 run_inside n at = front_inside n (λ (run : List ℕ). run) at
 
 module _ (w : Width) (low high : ℕ) (cause : Cause) (offset : ℕ) where
-  abbrev tested : ℕ × List ℕ → Result (ℕ × List ℕ) Stop
+  abbrev tested : ℕ × List ℕ → Result (ℕ × List ℕ) ReadFault
   tested x = cond (ltb x.0 low) (Err (Broken cause offset)) (cond (ltb high x.0) (Err (Broken cause offset)) (Ok x))
 
   passes : (b c : Bool) (n x : ℕ × List ℕ) → cond b (Err (Broken cause offset)) (cond c (Err (Broken cause offset)) (Ok n)) ≡ Ok x → n ≡ x
   passes true c n x e = absurd cc
   passes false true n x e = absurd cc
-  passes false false n x e = ok_is {E = Stop} n x e
+  passes false false n x e = ok_is {E = ReadFault} n x e
 
   fails : (b c : Bool) (n : ℕ × List ℕ) (other : Cause) (k : ℕ) → cond b (Err (Broken cause offset)) (cond c (Err (Broken cause offset)) (Ok n)) ≡ Err (Broken other k) → k ≡ offset
   fails true c n other k e = cc
@@ -137,11 +137,11 @@ unfolding outer_spelling_of_hello
 hello_length cert = omega arith
 
 -- a test that answers a value as it is
-only_ok : {A B : Type 0} (r : Result A Stop) (g : A → B) (cause : Cause) (offset : ℕ) → (r >>= λ (a : A). Ok (g a)) ≡ Err (Broken cause offset) → r ≡ Err (Broken cause offset)
+only_ok : {A B : Type 0} (r : Result A ReadFault) (g : A → B) (cause : Cause) (offset : ℕ) → (r >>= λ (a : A). Ok (g a)) ≡ Err (Broken cause offset) → r ≡ Err (Broken cause offset)
 only_ok (Ok a) g cause offset e = absurd cc
 only_ok (Err stop) g cause offset e = cc
 
-abbrev finish_hello : List ℕ × List ℕ → Result (LaneCert × List ℕ) Stop
+abbrev finish_hello : List ℕ × List ℕ → Result (LaneCert × List ℕ) ReadFault
 finish_hello cert = checked_cert (read_lane_cert cert.0) >>= λ (lane : LaneCert). Ok (lane, cert.1)
 
 hello_inside : (bytes : List ℕ) (cause : Cause) (offset : ℕ) → IsBytes bytes → read_hello bytes ≡ Err (Broken cause offset) → offset ≤ length bytes
@@ -173,7 +173,7 @@ frame_length : (o : OuterFrame) → length (outer_spelling_of_frame o) ≡ 13 + 
 unfolding outer_spelling_of_frame spelling_of_signature
 frame_length o = omega (arith, length-append (signed_fields o.number o.messages o.body) (to_be_bytes w16 (length o.signature) ++ o.signature), fields_length o.number o.messages o.body)
 
-abbrev finish_frame : PubKey → OuterFrame × List ℕ → Result (Frame × List ℕ) Stop
+abbrev finish_frame : PubKey → OuterFrame × List ℕ → Result (Frame × List ℕ) ReadFault
 finish_frame key o = checked_bodies key o.0 (split o.0.messages o.0.body) >>= λ (frame : Frame). Ok (frame, o.1)
 
 frame_inside : (key : PubKey) (bytes : List ℕ) (cause : Cause) (offset : ℕ) → IsBytes bytes → read_frame key bytes ≡ Err (Broken cause offset) → offset ≤ length bytes
@@ -194,7 +194,7 @@ unfolding read_item
 item_inside None bytes cause offset fits e = hello_inside bytes cause offset fits (only_ok (read_hello bytes) (λ (hello : LaneCert × List ℕ). (items.Hello hello.0, hello.1)) cause offset e)
 item_inside (Some lane) bytes cause offset fits e = frame_inside lane.key bytes cause offset fits (only_ok (read_frame lane.key bytes) (λ (frame : Frame × List ℕ). (items.Frame frame.0, frame.1)) cause offset e)
 
-pub item_among : (X : Type 0) (lane : Option LaneCert) (bytes : List ℕ) (halt : Halt) → IsBytes bytes → Halts halt (read_item lane bytes) → IsAmong {X = X} (length bytes) (Err halt)
+pub item_among : (X : Type 0) (lane : Option LaneCert) (bytes : List ℕ) (halt : ReadFaultOrMemory) → IsBytes bytes → Halts halt (read_item lane bytes) → IsAmong {X = X} (length bytes) (Err halt)
 item_among X lane bytes halts.NoMemory fits e = tt
 item_among X lane bytes halts.Open fits e = tt
 item_among X lane bytes (halts.Broken cause offset) fits e = item_inside lane bytes cause offset fits e

@@ -12,7 +12,7 @@ use Rattle.ds_cert.proofs.FieldLaws.{IsWithin}
 use Rattle.ds_cert.proofs.RecordLaws.{tag_fits, tag_takes}
 use Rattle.ds_frame.specs.declared.cause.Cause.{Cause}
 use Rattle.ds_frame.specs.declared.cause.Cause.TheVariants as causes
-use Rattle.ds_frame.specs.Fields.{Stop, field, number_from}
+use Rattle.ds_frame.specs.Fields.{ReadFault, field, number_from}
 use Rattle.ds_frame.specs.Ranges.{HelloFits, OuterFrameFits}
 use Rattle.ds_frame.specs.Outer.{read_outer_hello, read_outer_frame}
 use Rattle.ds_frame.specs.Spelling.{outer_spelling_of_hello, OuterFrame, signed_fields, outer_spelling_of_frame}
@@ -46,7 +46,7 @@ hello_spelt bytes cert rest fits e =
 hello_again : (cert rest : List ℕ) → HelloFits cert → read_outer_hello (outer_spelling_of_hello cert ++ rest) ≡ Ok (cert, rest)
 unfolding read_outer_hello outer_spelling_of_hello
 hello_again cert rest fits =
-    let result : Result (List ℕ × List ℕ) Stop = Ok (cert, rest) in
+    let result : Result (List ℕ × List ℕ) ReadFault = Ok (cert, rest) in
     let r4 : List ℕ = cert ++ rest in
     let r3 : List ℕ = to_be_bytes w16 (length cert) ++ r4 in
     let r2 : List ℕ = to_be_bytes w8 0x31 ++ r3 in
@@ -102,7 +102,7 @@ frame_spelt bytes o rest fits e =
 frame_again : (o : OuterFrame) (rest : List ℕ) → OuterFrameFits o → read_outer_frame (outer_spelling_of_frame o ++ rest) ≡ Ok (o, rest)
 unfolding read_outer_frame outer_spelling_of_frame signed_fields spelling_of_signature
 frame_again o rest fits =
-    let result : Result (OuterFrame × List ℕ) Stop = Ok (o, rest) in
+    let result : Result (OuterFrame × List ℕ) ReadFault = Ok (o, rest) in
     let r6 : List ℕ = o.signature ++ rest in
     let r5 : List ℕ = to_be_bytes w16 (length o.signature) ++ r6 in
     let r4 : List ℕ = o.body ++ r5 in

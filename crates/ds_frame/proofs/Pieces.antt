@@ -5,7 +5,7 @@ use Rattle.std.proofs.lemmas.List.{append-nil}
 use Rattle.ds_cert.specs.declared.lane.LaneCert.{LaneCert}
 use Rattle.ds_frame.specs.declared.item.Failure.{Failure}
 use Rattle.ds_frame.specs.declared.item.Item.{Item}
-use Rattle.ds_frame.specs.Fields.{Stop, Open, Broken}
+use Rattle.ds_frame.specs.Fields.{ReadFault, Open, Broken}
 use Rattle.ds_frame.specs.Reader.{Reader, Reading, new_reader, fed, lane_after, answer_of, next_by}
 use Rattle.ds_frame.specs.Streams.{Stream, with_item, joined, read_on, stream_by}
 use Rattle.ds_frame.specs.Laws.{Call, Feed, Next, Session, new_session, handed_by, called, after, fed_by, Continues, IsReadByPieces}
@@ -23,7 +23,7 @@ module _ (reading : Reading) (steady : (lane : Option LaneCert) → IsSteady 1 (
     where
       enough_next : (n m : ℕ) (lane : Option LaneCert) (passed : ℕ) (bytes : List ℕ) → length bytes < suc n → length bytes < suc m
           → ((item : Item) (rest : List ℕ) → length rest < n → length rest < m → read_on reading n (lane_after item lane) (passed + (length bytes - length rest)) rest ≡ read_on reading m (lane_after item lane) (passed + (length bytes - length rest)) rest)
-          → (r : Result (Item × List ℕ) Stop) → reading lane bytes ≡ r
+          → (r : Result (Item × List ℕ) ReadFault) → reading lane bytes ≡ r
           → joined passed (λ item rest. read_on reading n (lane_after item lane) (passed + (length bytes - length rest)) rest) r ≡ joined passed (λ item rest. read_on reading m (lane_after item lane) (passed + (length bytes - length rest)) rest) r
       enough_next n m lane passed bytes p q same (Ok x) e = ap (with_item x.0) (same x.0 x.1 (omega (arith, p, (steady lane).shorter bytes x e)) (omega (arith, q, (steady lane).shorter bytes x e)))
       enough_next n m lane passed bytes p q same (Err Open) e = refl
@@ -36,7 +36,7 @@ module _ (reading : Reading) (steady : (lane : Option LaneCert) → IsSteady 1 (
       ap (joined passed (λ item rest. read_on reading (length bytes) (lane_after item lane) (passed + (length bytes - length rest)) rest)) e
       ∙ ap (with_item x.0) (enough (length bytes) (suc (length x.1)) (lane_after x.0 lane) (passed + (length bytes - length x.1)) x.1 (omega (arith, (steady lane).shorter bytes x e)) (omega arith))
 
-  pub step_err : (lane : Option LaneCert) (passed : ℕ) (bytes : List ℕ) (stop : Stop) → reading lane bytes ≡ Err stop → read_on reading (suc (length bytes)) lane passed bytes ≡ joined passed (λ item rest. record { items = []; ending = None }) (Err stop)
+  pub step_err : (lane : Option LaneCert) (passed : ℕ) (bytes : List ℕ) (stop : ReadFault) → reading lane bytes ≡ Err stop → read_on reading (suc (length bytes)) lane passed bytes ≡ joined passed (λ item rest. record { items = []; ending = None }) (Err stop)
   unfolding read_on
   step_err lane passed bytes Open e = ap (joined passed (λ item rest. read_on reading (length bytes) (lane_after item lane) (passed + (length bytes - length rest)) rest)) e
   step_err lane passed bytes (Broken cause offset) e = ap (joined passed (λ item rest. read_on reading (length bytes) (lane_after item lane) (passed + (length bytes - length rest)) rest)) e
@@ -63,7 +63,7 @@ module _ (reading : Reading) (steady : (lane : Option LaneCert) → IsSteady 1 (
   reader_at rest passed lane failure = record { rest = rest; passed = passed; lane = lane; failure = failure }
 
   -- what one call of next does to what is ahead
-  moved_by : (rest : List ℕ) (passed : ℕ) (lane : Option LaneCert) (handed : List Item) (more : List ℕ) (read : Result (Item × List ℕ) Stop) → reading lane rest ≡ read
+  moved_by : (rest : List ℕ) (passed : ℕ) (lane : Option LaneCert) (handed : List Item) (more : List ℕ) (read : Result (Item × List ℕ) ReadFault) → reading lane rest ≡ read
       → with_front handed (ahead reading (fed more (reader_at rest passed lane None))) ≡ with_front (handed ++ handed_by (answer_of (reader_at rest passed lane None) read).answer) (ahead reading (fed more (answer_of (reader_at rest passed lane None) read).reader))
   moved_by rest passed lane handed more (Ok x) e =
       let longer = step_ok lane passed (rest ++ more) (x.0, x.1 ++ more) ((steady lane).goes_on rest more x e) in
@@ -107,7 +107,7 @@ module _ (reading : Reading) (steady : (lane : Option LaneCert) → IsSteady 1 (
   after_all (Feed piece ∷ calls) stream s so_far = subst (λ (bytes : List ℕ). IsAt bytes (after reading calls (called reading (Feed piece) s))) (append_assoc stream piece (fed_by calls)) (after_all calls (stream ++ piece) (called reading (Feed piece) s) (after_feed stream piece s so_far))
   after_all (Next ∷ calls) stream s so_far = after_all calls stream (called reading Next s) (after_next stream s so_far)
 
-  continues_by : (stream : Stream) (rest : List ℕ) (passed : ℕ) (lane : Option LaneCert) (handed : List Item) (read : Result (Item × List ℕ) Stop) → reading lane rest ≡ read
+  continues_by : (stream : Stream) (rest : List ℕ) (passed : ℕ) (lane : Option LaneCert) (handed : List Item) (read : Result (Item × List ℕ) ReadFault) → reading lane rest ≡ read
       → stream ≡ with_front handed (read_on reading (suc (length rest)) lane passed rest) → Continues stream handed (answer_of (reader_at rest passed lane None) read).answer
   continues_by stream rest passed lane handed (Ok x) e is =
       let following = read_on reading (suc (length x.1)) (lane_after x.0 lane) (passed + (length rest - length x.1)) x.1 in

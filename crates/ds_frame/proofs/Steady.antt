@@ -8,10 +8,10 @@ use Rattle.ds_wire.specs.Fields.{number_at, bytes_at}
 use Rattle.ds_cert.specs.Fields.{◌>>=◌}
 use Rattle.ds_cert.proofs.Steps.{bind_ok, bind_is}
 use Rattle.ds_frame.specs.declared.cause.Cause.{Cause}
-use Rattle.ds_frame.specs.Fields.{Stop, Broken, field, number_from}
+use Rattle.ds_frame.specs.Fields.{ReadFault, Broken, field, number_from}
 
 -- a reader that takes at least that many bytes where it reads a value
-pub record IsSteady {A : Type 0} (least : ℕ) (reading : List ℕ → Result (A × List ℕ) Stop) : Type 0 where
+pub record IsSteady {A : Type 0} (least : ℕ) (reading : List ℕ → Result (A × List ℕ) ReadFault) : Type 0 where
   pub goes_on : (bytes more : List ℕ) (x : A × List ℕ) → reading bytes ≡ Ok x → reading (bytes ++ more) ≡ Ok (x.0, x.1 ++ more)
   pub breaks : (bytes more : List ℕ) (cause : Cause) (offset : ℕ) → reading bytes ≡ Err (Broken cause offset) → reading (bytes ++ more) ≡ Err (Broken cause offset)
   pub shorter : (bytes : List ℕ) (x : A × List ℕ) → reading bytes ≡ Ok x → least + length x.1 ≤ length bytes
@@ -23,8 +23,8 @@ pub bind_err : {A B E : Type 0} (r : Result A E) (f : A → Result B E) (e : E) 
 bind_err (Ok x) f e told = inr (x, refl, told)
 bind_err (Err d) f e told = inl cc
 
-module _ {A B : Type 0} (least : ℕ) (r : List ℕ → Result (A × List ℕ) Stop) (f : A → List ℕ → Result (B × List ℕ) Stop) (first : IsSteady least r) (second : (a : A) → IsSteady 0 (f a)) where
-  abbrev both : List ℕ → Result (B × List ℕ) Stop
+module _ {A B : Type 0} (least : ℕ) (r : List ℕ → Result (A × List ℕ) ReadFault) (f : A → List ℕ → Result (B × List ℕ) ReadFault) (first : IsSteady least r) (second : (a : A) → IsSteady 0 (f a)) where
+  abbrev both : List ℕ → Result (B × List ℕ) ReadFault
   both bytes = r bytes >>= λ (x : A × List ℕ). f x.0 x.1
 
   then_goes_on : (bytes more : List ℕ) (y : B × List ℕ) → both bytes ≡ Ok y → both (bytes ++ more) ≡ Ok (y.0, y.1 ++ more)
@@ -36,7 +36,7 @@ module _ {A B : Type 0} (least : ℕ) (r : List ℕ → Result (A × List ℕ) S
   then_breaks bytes more cause offset e = cases (bind_err (r bytes) (λ (x : A × List ℕ). f x.0 x.1) (Broken cause offset) e)
     where
       cases : (r bytes ≡ Err (Broken cause offset)) ⊎ ((x : A × List ℕ) × (r bytes ≡ Ok x) × (f x.0 x.1 ≡ Err (Broken cause offset))) → both (bytes ++ more) ≡ Err (Broken cause offset)
-      cases (inl h) = ap (λ (s : Result (A × List ℕ) Stop). s >>= λ (x : A × List ℕ). f x.0 x.1) (first.breaks bytes more cause offset h)
+      cases (inl h) = ap (λ (s : Result (A × List ℕ) ReadFault). s >>= λ (x : A × List ℕ). f x.0 x.1) (first.breaks bytes more cause offset h)
       cases (inr h) = bind_is (r (bytes ++ more)) (λ (x : A × List ℕ). f x.0 x.1) (h.0.0, h.0.1 ++ more) (Err (Broken cause offset)) (first.goes_on bytes more h.0 h.1) ((second h.0.0).breaks h.0.1 more cause offset h.2)
 
   then_shorter : (bytes : List ℕ) (y : B × List ℕ) → both bytes ≡ Ok y → least + length y.1 ≤ length bytes
@@ -49,7 +49,7 @@ module _ {A B : Type 0} (least : ℕ) (r : List ℕ → Result (A × List ℕ) S
 
 -- ---- what takes no bytes
 
-abbrev done : {A : Type 0} → A → Result A Stop
+abbrev done : {A : Type 0} → A → Result A ReadFault
 done x = Ok x
 
 same_ok : {A : Type 0} (x y : A) → done x ≡ done y → x ≡ y
@@ -62,7 +62,7 @@ steady_done {A} a = record {
   shorter = λ bytes x e. subst (λ (y : A × List ℕ). 0 + length y.1 ≤ length bytes) (same_ok (a, bytes) x e) (omega arith);
 }
 
-pub steady_err : {A : Type 0} (stop : Stop) → IsSteady {A = A} 0 (λ (bytes : List ℕ). Err stop)
+pub steady_err : {A : Type 0} (stop : ReadFault) → IsSteady {A = A} 0 (λ (bytes : List ℕ). Err stop)
 steady_err stop = record {
   goes_on = λ bytes more x e. absurd cc;
   breaks = λ bytes more cause offset e. e;
@@ -70,7 +70,7 @@ steady_err stop = record {
 }
 
 -- a test of the value that was read, which takes no bytes
-pub steady_checked : {A B : Type 0} (r : Result A Stop) (g : A → B) → IsSteady 0 (λ (bytes : List ℕ). r >>= λ (a : A). Ok (g a, bytes))
+pub steady_checked : {A B : Type 0} (r : Result A ReadFault) (g : A → B) → IsSteady 0 (λ (bytes : List ℕ). r >>= λ (a : A). Ok (g a, bytes))
 steady_checked (Ok a) g = steady_done (g a)
 steady_checked (Err stop) g = steady_err stop
 
@@ -117,7 +117,7 @@ steady_number w = steady_front (byte_len w) (from_be_bytes w)
 pub steady_run : (n : ℕ) → IsSteady n (λ (bytes : List ℕ). field (bytes_at n bytes))
 steady_run n = steady_front n (λ (run : List ℕ). run)
 
-steady_test : (b c : Bool) (stop : Stop) (n : ℕ) → IsSteady 0 (λ (bytes : List ℕ). cond b (Err stop) (cond c (Err stop) (Ok (n, bytes))))
+steady_test : (b c : Bool) (stop : ReadFault) (n : ℕ) → IsSteady 0 (λ (bytes : List ℕ). cond b (Err stop) (cond c (Err stop) (Ok (n, bytes))))
 steady_test true c stop n = steady_err stop
 steady_test false true stop n = steady_err stop
 steady_test false false stop n = steady_done n
@@ -128,5 +128,5 @@ steady_from w low high cause offset =
     steady_then (byte_len w) (λ (bytes : List ℕ). field (number_at w bytes)) (λ (n : ℕ) (bytes : List ℕ). cond (ltb n low) (Err (Broken cause offset)) (cond (ltb high n) (Err (Broken cause offset)) (Ok (n, bytes)))) (steady_number w) (λ n. steady_test (ltb n low) (ltb high n) (Broken cause offset) n)
 
 -- at least as many bytes as one is at least that many
-pub steady_less : {A : Type 0} (least fewer : ℕ) (r : List ℕ → Result (A × List ℕ) Stop) → fewer ≤ least → IsSteady least r → IsSteady fewer r
+pub steady_less : {A : Type 0} (least fewer : ℕ) (r : List ℕ → Result (A × List ℕ) ReadFault) → fewer ≤ least → IsSteady least r → IsSteady fewer r
 steady_less least fewer r le s = record { goes_on = s.goes_on; breaks = s.breaks; shorter = λ bytes x e. omega (arith, le, s.shorter bytes x e) }

@@ -10,7 +10,7 @@ use Rattle.ds_cert.proofs.Steps.{bind_is, ok_is}
 use Rattle.ds_frame.specs.declared.item.Frame.{Frame}
 use Rattle.ds_frame.specs.declared.item.Item.TheVariants as items
 use Rattle.ds_frame.specs.Checks.{read_hello, read_frame, read_item}
-use Rattle.ds_frame.specs.Fields.{Stop, Open, Broken, number_from}
+use Rattle.ds_frame.specs.Fields.{ReadFault, Open, Broken, number_from}
 use Rattle.ds_frame.specs.Laws.{IsHello, IsFrame, IsOpenBefore, spelling_of_frames, IsStreamOf}
 use Rattle.ds_frame.specs.Outer.{read_outer_frame}
 use Rattle.ds_frame.specs.Spelling.{spelling_of_hello, spelling_of_frame}
@@ -22,24 +22,24 @@ use Rattle.ds_frame.proofs.SteadyItems.{steady_item}
 
 -- ---- proper prefixes
 
-abbrev done : {A : Type 0} → A → Result A Stop
+abbrev done : {A : Type 0} → A → Result A ReadFault
 done x = Ok x
 
 nothing_behind : (a b : List ℕ) → a ++ b ≡ [] → b ≡ []
 nothing_behind [] b e = e
 nothing_behind (x ∷ a) b e = absurd cc
 
-module _ {A : Type 0} (Fits : A → Type 0) (spelling : A → List ℕ) (reading : List ℕ → Result (A × List ℕ) Stop) (is : IsSpelling Fits spelling reading) (least : ℕ) (steady : IsSteady least reading) where
+module _ {A : Type 0} (Fits : A → Type 0) (spelling : A → List ℕ) (reading : List ℕ → Result (A × List ℕ) ReadFault) (is : IsSpelling Fits spelling reading) (least : ℕ) (steady : IsSteady least reading) where
   pub open_before : IsOpenBefore Fits spelling reading
   open_before x bytes missing fits parts some = cases (reading bytes) refl
     where
       whole : reading (bytes ++ missing) ≡ Ok (x, [])
       whole = ap reading (sym parts ∙ sym (append-nil (spelling x))) ∙ is.read_again x [] fits
 
-      cases : (r : Result (A × List ℕ) Stop) → reading bytes ≡ r → r ≡ Err Open
+      cases : (r : Result (A × List ℕ) ReadFault) → reading bytes ≡ r → r ≡ Err Open
       cases (Ok y) e =
           let longer : done {A = A × List ℕ} (y.0, y.1 ++ missing) ≡ Ok (x, []) = sym (steady.goes_on bytes missing y e) ∙ whole in
-          let behind : y.1 ++ missing ≡ [] = ap (λ (p : A × List ℕ). p.1) (ok_is {E = Stop} (y.0, y.1 ++ missing) (x, []) longer) in
+          let behind : y.1 ++ missing ≡ [] = ap (λ (p : A × List ℕ). p.1) (ok_is {E = ReadFault} (y.0, y.1 ++ missing) (x, []) longer) in
           absurd (some (nothing_behind y.1 missing behind))
       cases (Err Open) e = refl
       cases (Err (Broken cause offset)) e =

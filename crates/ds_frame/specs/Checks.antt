@@ -12,7 +12,7 @@ use Rattle.ds_frame.specs.declared.item.Frame.{Frame}
 use Rattle.ds_frame.specs.declared.item.Item.{Item}
 use Rattle.ds_frame.specs.declared.item.Item.TheVariants as items
 use Rattle.ds_frame.specs.Spelling.{OuterFrame, signed_fields}
-use Rattle.ds_frame.specs.Fields.{Stop, Broken}
+use Rattle.ds_frame.specs.Fields.{ReadFault, Broken}
 use Rattle.ds_frame.specs.Outer.{read_outer_hello, read_outer_frame}
 use Rattle.ds_frame.specs.Bodies.{split}
 
@@ -24,7 +24,7 @@ abbrev pub is_good_lane_cert : LaneCert → Bool
 is_good_lane_cert l = is_good l.exporter.0 (signed_part_of_lane_cert l) l.signature
 
 -- the bytes spell a lane certificate, and its signature is good
-abbrev pub checked_cert : Result LaneCert ℕ → Result LaneCert Stop
+abbrev pub checked_cert : Result LaneCert ℕ → Result LaneCert ReadFault
 checked_cert (Err place) = Err (Broken causes.HelloCert (6 + place))
 checked_cert (Ok lane) = if is_good_lane_cert lane then Ok lane else Err (Broken causes.HelloSignature 6)
 
@@ -34,7 +34,7 @@ begins_with number signature = bytes_eq (take 4 signature) (to_be_bytes w32 numb
 
 -- The counts split the body into that many messages, the signature begins with the frame's number, and it is good under the
 -- key. The body stands 11 bytes behind the frame's first, the signature two bytes behind the body.
-abbrev pub checked_bodies : (key : PubKey) → OuterFrame → Option (List (List ℕ)) → Result Frame Stop
+abbrev pub checked_bodies : (key : PubKey) → OuterFrame → Option (List (List ℕ)) → Result Frame ReadFault
 checked_bodies key o None = Err (Broken causes.Split 11)
 checked_bodies key o (Some bodies) =
     if begins_with o.number o.signature then
@@ -43,21 +43,21 @@ checked_bodies key o (Some bodies) =
     else Err (Broken causes.Leaf (13 + length o.body))
 
 -- a hello
-unfoldable pub read_hello : List ℕ → Result (LaneCert × List ℕ) Stop
+unfoldable pub read_hello : List ℕ → Result (LaneCert × List ℕ) ReadFault
 read_hello bytes = do
   cert ← read_outer_hello bytes
   lane ← checked_cert (read_lane_cert cert.0)
   Ok (lane, cert.1)
 
 -- a frame under the lane's key
-unfoldable pub read_frame : (key : PubKey) → List ℕ → Result (Frame × List ℕ) Stop
+unfoldable pub read_frame : (key : PubKey) → List ℕ → Result (Frame × List ℕ) ReadFault
 read_frame key bytes = do
   o ← read_outer_frame bytes
   frame ← checked_bodies key o.0 (split o.0.messages o.0.body)
   Ok (frame, o.1)
 
 -- a hello first, and frames once its lane certificate is known
-unfoldable pub read_item : Option LaneCert → List ℕ → Result (Item × List ℕ) Stop
+unfoldable pub read_item : Option LaneCert → List ℕ → Result (Item × List ℕ) ReadFault
 read_item None bytes = do
   hello ← read_hello bytes
   Ok (items.Hello hello.0, hello.1)

@@ -12,7 +12,7 @@ use Rattle.ds_frame.specs.declared.item.Item.{Item}
 use Rattle.ds_frame.specs.declared.item.Item.TheVariants as items
 use Rattle.ds_frame.specs.declared.item.ReadEnd.{ReadEnd}
 use Rattle.ds_frame.specs.declared.item.ReadEnd.TheVariants as ends
-use Rattle.ds_frame.specs.Fields.{Stop, Open}
+use Rattle.ds_frame.specs.Fields.{ReadFault, Open}
 use Rattle.ds_frame.specs.Ranges.{BodiesRange, FrameSignatureFits}
 use Rattle.ds_frame.specs.Reader.{Reader, Reading, new_reader, fed, next_by}
 use Rattle.ds_frame.specs.Spelling.{spelling_of_hello, spelling_of_frame, part_of_frame}
@@ -52,7 +52,7 @@ StartsWith (Some lane) (items.Frame frame) bytes rest = StartsWithFrame lane.key
 -- ---- proper prefixes
 
 -- a proper prefix of a spelling is open
-abbrev pub IsOpenBefore : {A : Type 0} → (A → Type 0) → (A → List ℕ) → (List ℕ → Result (A × List ℕ) Stop) → Type 0
+abbrev pub IsOpenBefore : {A : Type 0} → (A → Type 0) → (A → List ℕ) → (List ℕ → Result (A × List ℕ) ReadFault) → Type 0
 IsOpenBefore {A} Fits spelling reading = (x : A) (bytes missing : List ℕ) → Fits x → spelling x ≡ bytes ++ missing → (missing ≡ [] → ⊥) → reading bytes ≡ Err Open
 
 -- ---- whole streams

@@ -6,10 +6,10 @@ use Rattle.ds_wire.specs.Fields.{number_at, bytes_at}
 use Rattle.ds_cert.specs.Fields.{◌>>=◌}
 use Rattle.ds_frame.specs.declared.cause.Cause.TheVariants as causes
 use Rattle.ds_frame.specs.Spelling.{OuterFrame}
-use Rattle.ds_frame.specs.Fields.{Stop, field, number_from}
+use Rattle.ds_frame.specs.Fields.{ReadFault, field, number_from}
 
 -- the bytes of the certificate
-unfoldable pub read_outer_hello : List ℕ → Result (List ℕ × List ℕ) Stop
+unfoldable pub read_outer_hello : List ℕ → Result (List ℕ × List ℕ) ReadFault
 read_outer_hello bytes = do
   d ← number_from w8 0x44 0x44 causes.Magic 0 bytes
   s ← number_from w8 0x53 0x53 causes.Magic 1 d.1
@@ -18,7 +18,7 @@ read_outer_hello bytes = do
   count ← number_from w16 1 6860 causes.HelloCount 4 one.1
   field (bytes_at count.0 count.1)
 
-unfoldable pub read_outer_frame : List ℕ → Result (OuterFrame × List ℕ) Stop
+unfoldable pub read_outer_frame : List ℕ → Result (OuterFrame × List ℕ) ReadFault
 read_outer_frame bytes = do
   tag ← number_from w8 4 4 causes.Tag 0 bytes
   number ← field (number_at w32 tag.1)

@@ -6,7 +6,7 @@ use Rattle.ds_frame.specs.declared.item.Item.{Item}
 use Rattle.ds_frame.specs.declared.item.Item.TheVariants as items
 use Rattle.ds_frame.specs.declared.item.ReadEnd.{ReadEnd}
 use Rattle.ds_frame.specs.declared.item.ReadEnd.TheVariants as ends
-use Rattle.ds_frame.specs.Fields.{Stop, Open, Broken}
+use Rattle.ds_frame.specs.Fields.{ReadFault, Open, Broken}
 use Rattle.ds_frame.specs.Checks.{read_item}
 
 pub record Reader : Type 0 where
@@ -30,7 +30,7 @@ lane_after (items.Frame frame) before = before
 
 -- how items are read: by the lane certificate, if there is one yet, off the front of bytes
 abbrev pub Reading : Type 0
-Reading = Option LaneCert → List ℕ → Result (Item × List ℕ) Stop
+Reading = Option LaneCert → List ℕ → Result (Item × List ℕ) ReadFault
 
 -- what a call of next answers, and the reader after it
 pub record Answer : Type 0 where
@@ -38,7 +38,7 @@ pub record Answer : Type 0 where
   pub reader : Reader
 
 -- an item is handed out: its bytes join those before
-abbrev pub answer_of : Reader → Result (Item × List ℕ) Stop → Answer
+abbrev pub answer_of : Reader → Result (Item × List ℕ) ReadFault → Answer
 answer_of r (Ok x) = record { answer = Ok x.0; reader = record r { rest = x.1; passed = r.passed + (length r.rest - length x.1); lane = lane_after x.0 r.lane } }
 answer_of r (Err Open) = record { answer = Err ends.NotYet; reader = r }
 answer_of r (Err (Broken cause offset)) = record { answer = Err (ends.BadFrame cause (r.passed + offset)); reader = record r { failure = Some (record { cause = cause; place = r.passed + offset }) } }

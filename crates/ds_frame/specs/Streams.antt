@@ -2,7 +2,7 @@
 use Rattle.std.specs.Prelude.{ℕ, zero, suc, ◌+◌, ◌-◌, List, [], ◌∷◌, length, Option, Some, None, Result, Ok, Err}
 use Rattle.ds_cert.specs.declared.lane.LaneCert.{LaneCert}
 use Rattle.ds_frame.specs.declared.item.Item.{Item}
-use Rattle.ds_frame.specs.Fields.{Stop, Open, Broken}
+use Rattle.ds_frame.specs.Fields.{ReadFault, Open, Broken}
 use Rattle.ds_frame.specs.Reader.{Reading, lane_after}
 use Rattle.ds_frame.specs.declared.item.Failure.{Failure}
 
@@ -15,7 +15,7 @@ abbrev pub with_item : Item → Stream → Stream
 with_item item s = record s { items = item ∷ s.items }
 
 -- an item and what follows it, or the end
-abbrev pub joined : (passed : ℕ) → (Item → List ℕ → Stream) → Result (Item × List ℕ) Stop → Stream
+abbrev pub joined : (passed : ℕ) → (Item → List ℕ → Stream) → Result (Item × List ℕ) ReadFault → Stream
 joined passed following (Ok x) = with_item x.0 (following x.0 x.1)
 joined passed following (Err Open) = record { items = []; ending = None }
 joined passed following (Err (Broken cause offset)) = record { items = []; ending = Some (record { cause = cause; place = passed + offset }) }

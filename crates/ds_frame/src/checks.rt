@@ -6,7 +6,7 @@ ghost use Rattle.ds_frame.specs.Checks.{begins_with, checked_cert, is_good, is_g
 ghost use Rattle.ds_frame.specs.Fields.{Finds};
 
 use crate::cause::Cause;
-use crate::item::Halt;
+use crate::item::ReadFaultOrMemory;
 use ds_cert::{CertFault, LaneCert};
 use ds_label::PubKey;
 use lms_sig::verify;
@@ -21,18 +21,18 @@ fn is_good_lane_cert(lane: &LaneCert) -> Result<bool, AllocError>
 }
 
 /// The lane certificate that the bytes of a hello spell, whose signature is good.
-pub fn checked_cert(alloc: Global, cert: &[u8]) -> Result<LaneCert, Halt>
+pub fn checked_cert(alloc: Global, cert: &[u8]) -> Result<LaneCert, ReadFaultOrMemory>
     ensures { Finds (λ x. x) result (checked_cert (read_lane_cert cert.now)) }
 {
     match LaneCert::decode(alloc, cert) {
         Ok(lane) => {
             if !is_good_lane_cert(&lane)? {
-                return Err(Halt::Broken(Cause::HelloSignature, 6));
+                return Err(ReadFaultOrMemory::Broken(Cause::HelloSignature, 6));
             }
             Ok(lane)
         }
-        Err(CertFault::Malformed(place)) => Err(Halt::Broken(Cause::HelloCert, 6 + place as usize)),
-        Err(CertFault::NoMemory) => Err(Halt::NoMemory),
+        Err(CertFault::Malformed(place)) => Err(ReadFaultOrMemory::Broken(Cause::HelloCert, 6 + place as usize)),
+        Err(CertFault::NoMemory) => Err(ReadFaultOrMemory::NoMemory),
     }
 }
 

@@ -51,7 +51,7 @@ pub struct Failure {
 
 /// Why reading the front of a stream stops.
 #[derive(Clone, Copy, Debug, PartialEq, Eq)]
-pub enum Halt {
+pub enum ReadFaultOrMemory {
     /// A field isn't whole yet, and each field before it is in range.
     Open,
     /// For that cause, at a place that many bytes behind the item's first byte.
@@ -60,12 +60,12 @@ pub enum Halt {
     NoMemory,
 }
 
-impl From<AllocError> for Halt {
-    ghost use Rattle.ds_frame.specs.declared.item.Halt.TheVariants.{NoMemory};
+impl From<AllocError> for ReadFaultOrMemory {
+    ghost use Rattle.ds_frame.specs.declared.item.ReadFaultOrMemory.TheVariants.{NoMemory};
 
     ghost from_gives = { λ _ e. e ≡ NoMemory };
 
-    fn from(_fault: AllocError) -> Halt {
-        Halt::NoMemory
+    fn from(_fault: AllocError) -> ReadFaultOrMemory {
+        ReadFaultOrMemory::NoMemory
     }
 }

@@ -6,14 +6,14 @@ ghost use Rattle.ds_frame.specs.Outer.{read_outer_frame, read_outer_hello};
 
 use crate::cause::Cause;
 use crate::fields::{byte_of, long_of, number_of, run_of, short_of};
-use crate::item::Halt;
+use crate::item::ReadFaultOrMemory;
 
 /// A frame's number, how many messages it has, its body and its signature.
 pub type OuterFrame<'a> = (u32, u16, &'a [u8], &'a [u8]);
 
 /// The bytes of a hello's certificate, and what follows the hello.
 #[tactic(auto, unfolding(crate::specs::Outer::read_outer_hello))]
-pub fn outer_hello(bytes: &[u8]) -> Result<(&[u8], &[u8]), Halt>
+pub fn outer_hello(bytes: &[u8]) -> Result<(&[u8], &[u8]), ReadFaultOrMemory>
     ensures { Finds (λ x. (x.0.now, x.1.now)) result (read_outer_hello bytes.now) }
 {
     let (_, rest) = byte_of(bytes, 0x44, Cause::Magic, 0)?;
@@ -26,7 +26,7 @@ pub fn outer_hello(bytes: &[u8]) -> Result<(&[u8], &[u8]), Halt>
 
 /// A frame's fields, and what follows the frame.
 #[tactic(auto, unfolding(crate::specs::Outer::read_outer_frame))]
-pub fn outer_frame(bytes: &[u8]) -> Result<(OuterFrame, &[u8]), Halt>
+pub fn outer_frame(bytes: &[u8]) -> Result<(OuterFrame, &[u8]), ReadFaultOrMemory>
     ensures gives { Finds (λ x. (record { number = x.0.0; messages = x.0.1; body = x.0.2.now; signature = x.0.3.now }, x.1.now)) result (read_outer_frame bytes.now) }
     ensures most { IfOk result (λ x. x.0.1 ≤ 16) }
 {

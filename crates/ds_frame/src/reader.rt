@@ -5,7 +5,7 @@ ghost use Rattle.ds_frame.specs.Laws.{StartsWith};
 ghost use Rattle.ds_frame.specs.Reader.{Answered, fed, lane_after, new_reader};
 
 use crate::cause::Cause;
-use crate::item::{Failure, Halt, Item, ReadEnd};
+use crate::item::{Failure, ReadFaultOrMemory, Item, ReadEnd};
 use crate::reading::item_of;
 use ds_cert::LaneCert;
 use std::alloc::{AllocError, Global};
@@ -73,9 +73,9 @@ impl FrameReader {
                 }
                 Ok(item)
             }
-            Err(Halt::Open) => Err(ReadEnd::NotYet),
-            Err(Halt::NoMemory) => Err(ReadEnd::NoMemory),
-            Err(Halt::Broken(cause, offset)) => Err(self.fail(cause, offset)),
+            Err(ReadFaultOrMemory::Open) => Err(ReadEnd::NotYet),
+            Err(ReadFaultOrMemory::NoMemory) => Err(ReadEnd::NoMemory),
+            Err(ReadFaultOrMemory::Broken(cause, offset)) => Err(self.fail(cause, offset)),
         }
     }
 

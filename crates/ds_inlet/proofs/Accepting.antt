@@ -15,7 +15,7 @@ use Rattle.ds_frame.specs.declared.item.Failure.{Failure}
 use Rattle.ds_frame.specs.declared.item.Frame.{Frame}
 use Rattle.ds_frame.specs.declared.item.Item.{Item}
 use Rattle.ds_frame.specs.declared.item.Item.TheVariants as items
-use Rattle.ds_frame.specs.Fields.{Stop, Open, Broken}
+use Rattle.ds_frame.specs.Fields.{ReadFault, Open, Broken}
 use Rattle.ds_frame.specs.Checks.{read_item, read_hello, read_frame}
 use Rattle.ds_frame.specs.Reader.{Reader, Answer, lane_after, answer_of, next_unless, next_by}
 use Rattle.ds_frame.specs.Laws.{handed_by}
@@ -25,7 +25,7 @@ use Rattle.ds_frame.proofs.Pieces.{so_far_new, so_far_fed, so_far_next, so_far_n
 use Rattle.ds_model.specs.Scheme.{Scheme, InletName, Item as Seen, Hello, Framed, Failure as SeenFailure}
 use Rattle.ds_model.specs.Plan.{HostPlan}
 use Rattle.ds_model.specs.World.{Conn}
-use Rattle.ds_model.specs.Connecting.{ConnAsk, Quiet, Become, Number, hello_of, peer, take_frame, frame_from, fail, accept_item, accept_free, accept, fresh_frame, stale_frame}
+use Rattle.ds_model.specs.ConnectionStep.{ConnAsk, ConnWaits, ConnInternal, AsksInlet, hello_of, peer, take_frame, frame_from, fail, accept_item, accept_free, accept, fresh_frame, stale_frame}
 use Rattle.ds_frame.specs.declared.item.ReadEnd.{ReadEnd}
 use Rattle.ds_frame.specs.declared.item.ReadEnd.TheVariants as ends
 use Rattle.ds_inlet.specs.declared.offer.Offer.{Offer}
@@ -34,7 +34,7 @@ use Rattle.ds_inlet.specs.declared.offer.ConnEntry.TheVariants as entries
 use Rattle.ds_inlet.specs.Hosts.{inlet_at, host_item, host_reading, seen_reading, seen_or_none, seen_of_items, seen_failure, items_of, ending_of}
 use Rattle.ds_inlet.specs.Reads.{frame_read}
 use Rattle.ds_inlet.specs.OfferedFrames.{OfferedFrame}
-use Rattle.ds_inlet.specs.Connections.{Connection, Reads, Told, HasInlet, read_past, frame_seen, told_seen, told_reading, told_unless, told_offered, told_read, settled_as, passed_from, refused_from, seat, seat_of, IsSeated, place_or_0}
+use Rattle.ds_inlet.specs.Connections.{Connection, Reads, ReadStep, HasInlet, read_past, frame_seen, seen_step, reading_step, step_unless_failed, step_unless_offered, read_step, settled_as, passed_from, refused_from, lane_inlet, lane_inlet_of, IsForInlet, place_or_0}
 use Rattle.ds_inlet.specs.PlainConnections.{plain_conn, taken_of, hellos_of, frames_of, taken_by}
 use Rattle.ds_inlet.specs.Accepting.{BeginsWith, IsFine, IsReadSoFar, StaysReadSoFar, inlet_scheme, inlet_plan, FailsOnce, Accepts, IsPlainAccept}
 use Rattle.ds_inlet.proofs.Steady.{steady_host}
@@ -43,10 +43,10 @@ use Rattle.ds_inlet.proofs.PlainCalls.{frames_push, plain_fresh, plain_stale}
 
 -- WHAT IS READ
 
-abbrev item_ok : Item × List ℕ → Result (Item × List ℕ) Stop
+abbrev item_ok : Item × List ℕ → Result (Item × List ℕ) ReadFault
 item_ok x = Ok x
 
-abbrev seen_ok : Seen × List ℕ → Result (Seen × List ℕ) Stop
+abbrev seen_ok : Seen × List ℕ → Result (Seen × List ℕ) ReadFault
 seen_ok x = Ok x
 
 -- a hello where there was none yet, else a frame
@@ -82,14 +82,14 @@ seen_in_turn here inlets (Some before) (items.Frame frame) (Framed number messag
 -- what a reading finds: an item that the host sees, or why it stops
 data Found (here : PubKey) (inlets : List InletName) (lane : Option LaneCert) (bytes : List ℕ) : Type 0 where
   Read : (x : Item × List ℕ) (seen : Seen) → host_reading here inlets lane bytes ≡ Ok x → seen_reading here inlets lane bytes ≡ Ok (seen, x.1) → host_item here inlets x.0 ≡ Ok seen → IsSeenInTurn lane seen → Found here inlets lane bytes
-  Stopped : (stop : Stop) → host_reading here inlets lane bytes ≡ Err stop → seen_reading here inlets lane bytes ≡ Err stop → Found here inlets lane bytes
+  Stopped : (stop : ReadFault) → host_reading here inlets lane bytes ≡ Err stop → seen_reading here inlets lane bytes ≡ Err stop → Found here inlets lane bytes
 
 module _ (here : PubKey) (inlets : List InletName) where
   -- both readings, by what is read and what the host sees of it
-  abbrev by_item : Result (Item × List ℕ) Stop → Result (Item × List ℕ) Stop
+  abbrev by_item : Result (Item × List ℕ) ReadFault → Result (Item × List ℕ) ReadFault
   by_item r = r >>= λ (x : Item × List ℕ). host_item here inlets x.0 >>= λ (seen : Seen). item_ok x
 
-  abbrev by_seen : Result (Item × List ℕ) Stop → Result (Seen × List ℕ) Stop
+  abbrev by_seen : Result (Item × List ℕ) ReadFault → Result (Seen × List ℕ) ReadFault
   by_seen r = r >>= λ (x : Item × List ℕ). host_item here inlets x.0 >>= λ (seen : Seen). seen_ok (seen, x.1)
 
   read_by : (lane : Option LaneCert) (bytes : List ℕ) → host_reading here inlets lane bytes ≡ by_item (read_item lane bytes)
@@ -103,16 +103,16 @@ module _ (here : PubKey) (inlets : List InletName) where
   found : (lane : Option LaneCert) (bytes : List ℕ) → Found here inlets lane bytes
   found lane bytes = go (read_item lane bytes) refl
     where
-      see : (x : Item × List ℕ) → read_item lane bytes ≡ Ok x → (h : Result Seen Stop) → host_item here inlets x.0 ≡ h → Found here inlets lane bytes
+      see : (x : Item × List ℕ) → read_item lane bytes ≡ Ok x → (h : Result Seen ReadFault) → host_item here inlets x.0 ≡ h → Found here inlets lane bytes
       see x e (Ok seen) q = Read x seen
-          (read_by lane bytes ∙ (ap by_item e ∙ ap (λ (r : Result Seen Stop). r >>= λ (s : Seen). item_ok x) q))
-          (seen_by lane bytes ∙ (ap by_seen e ∙ ap (λ (r : Result Seen Stop). r >>= λ (s : Seen). seen_ok (s, x.1)) q))
+          (read_by lane bytes ∙ (ap by_item e ∙ ap (λ (r : Result Seen ReadFault). r >>= λ (s : Seen). item_ok x) q))
+          (seen_by lane bytes ∙ (ap by_seen e ∙ ap (λ (r : Result Seen ReadFault). r >>= λ (s : Seen). seen_ok (s, x.1)) q))
           q
           (seen_in_turn here inlets lane x.0 seen (in_turn lane bytes x e) (accords here inlets x.0 seen None q))
       see x e (Err stop) q = Stopped stop
-          (read_by lane bytes ∙ (ap by_item e ∙ ap (λ (r : Result Seen Stop). r >>= λ (s : Seen). item_ok x) q))
-          (seen_by lane bytes ∙ (ap by_seen e ∙ ap (λ (r : Result Seen Stop). r >>= λ (s : Seen). seen_ok (s, x.1)) q))
-      go : (r : Result (Item × List ℕ) Stop) → read_item lane bytes ≡ r → Found here inlets lane bytes
+          (read_by lane bytes ∙ (ap by_item e ∙ ap (λ (r : Result Seen ReadFault). r >>= λ (s : Seen). item_ok x) q))
+          (seen_by lane bytes ∙ (ap by_seen e ∙ ap (λ (r : Result Seen ReadFault). r >>= λ (s : Seen). seen_ok (s, x.1)) q))
+      go : (r : Result (Item × List ℕ) ReadFault) → read_item lane bytes ≡ r → Found here inlets lane bytes
       go (Ok x) e = see x e (host_item here inlets x.0) refl
       go (Err stop) e = Stopped stop (read_by lane bytes ∙ ap by_item e) (seen_by lane bytes ∙ ap by_seen e)
 
@@ -133,14 +133,14 @@ abbrev with_parts : Connection → Reader → Option OfferedFrame → Connection
 with_parts k reader offered = record k { reader = reader; offered = offered }
 
 module _ (k : Connection) where
-  abbrev reading : Option LaneCert → List ℕ → Result (Item × List ℕ) Stop
+  abbrev reading : Option LaneCert → List ℕ → Result (Item × List ℕ) ReadFault
   reading = host_reading k.here k.inlets
 
   -- one call of next on the reader
-  next_is : (r : Result (Item × List ℕ) Stop) → k.reader.failure ≡ None → reading k.reader.lane k.reader.rest ≡ r → next_by reading k.reader ≡ answer_of k.reader r
+  next_is : (r : Result (Item × List ℕ) ReadFault) → k.reader.failure ≡ None → reading k.reader.lane k.reader.rest ≡ r → next_by reading k.reader ≡ answer_of k.reader r
   next_is r fine e = ap (λ (o : Option Failure). next_unless o reading k.reader) fine ∙ ap (answer_of k.reader) e
 
-  after_next : (is : IsReadSoFar k) (r : Result (Item × List ℕ) Stop) → k.reader.failure ≡ None → reading k.reader.lane k.reader.rest ≡ r
+  after_next : (is : IsReadSoFar k) (r : Result (Item × List ℕ) ReadFault) → k.reader.failure ≡ None → reading k.reader.lane k.reader.rest ≡ r
       → IsSoFar reading k.arrived (is.handed ++ handed_by (answer_of k.reader r).answer) (answer_of k.reader r).reader
   after_next is r fine e = subst (λ (a : Answer). IsSoFar reading k.arrived (is.handed ++ handed_by a.answer) a.reader) (next_is r fine e) (so_far_next reading (steady_host k.here k.inlets) k.arrived is.handed k.reader is.so_far)
 
@@ -153,13 +153,13 @@ module _ (k : Connection) where
   more_seen : (is : IsReadSoFar k) (x : Item) (seen : Seen) → host_item k.here k.inlets x ≡ Ok seen → seen_of_items k.here k.inlets (is.handed ++ x ∷ []) ≡ seen_of_items k.here k.inlets is.handed ++ seen ∷ []
   more_seen is x seen sees =
       seen_append k.here k.inlets is.handed (x ∷ [])
-      ∙ ap (λ (r : Result Seen Stop). seen_of_items k.here k.inlets is.handed ++ (seen_or_none r ++ [])) sees
+      ∙ ap (λ (r : Result Seen ReadFault). seen_of_items k.here k.inlets is.handed ++ (seen_or_none r ++ [])) sees
 
   -- where nothing is offered, all of it was taken
   all_taken : (is : IsReadSoFar k) → k.offered ≡ None → seen_of_items k.here k.inlets is.handed ≡ is.items
   all_taken is free = is.seen ∙ ap (λ (o : Option OfferedFrame). is.items ++ frame_read o) free ∙ append-nil is.items
 
-  reads_seen : (is : IsReadSoFar k) (x : Item × List ℕ) (seen : Seen) → k.offered ≡ None → k.reader.failure ≡ None → reading k.reader.lane k.reader.rest ≡ Ok x → host_item k.here k.inlets x.0 ≡ Ok seen → (lane : Option LaneCert) → k.reader.lane ≡ lane → IsSeenInTurn lane seen → IsReadSoFar (told_seen k seen x.1).conn
+  reads_seen : (is : IsReadSoFar k) (x : Item × List ℕ) (seen : Seen) → k.offered ≡ None → k.reader.failure ≡ None → reading k.reader.lane k.reader.rest ≡ Ok x → host_item k.here k.inlets x.0 ≡ Ok seen → (lane : Option LaneCert) → k.reader.lane ≡ lane → IsSeenInTurn lane seen → IsReadSoFar (seen_step k seen x.1).conn
   reads_seen is x (Hello l) free fine e sees None known turn =
       let nothing : seen_of_items k.here k.inlets is.handed ≡ [] = subst (λ (o : Option LaneCert). BeginsWith o (seen_of_items k.here k.inlets is.handed)) known is.begins in
       let none : length is.items ≡ 0 = ap (λ (xs : List Seen). length xs) (sym (all_taken is free) ∙ nothing) in
@@ -190,7 +190,7 @@ module _ (k : Connection) where
         fine = fine;
       }
 
-  reads_stop : (is : IsReadSoFar k) (stop : Stop) → k.offered ≡ None → k.reader.failure ≡ None → reading k.reader.lane k.reader.rest ≡ Err stop → IsReadSoFar (told_reading k (Err stop)).conn
+  reads_stop : (is : IsReadSoFar k) (stop : ReadFault) → k.offered ≡ None → k.reader.failure ≡ None → reading k.reader.lane k.reader.rest ≡ Err stop → IsReadSoFar (reading_step k (Err stop)).conn
   reads_stop is Open free fine e = is
   reads_stop is (Broken cause offset) free fine e = record {
     handed = is.handed;
@@ -202,15 +202,15 @@ module _ (k : Connection) where
     fine = subst (λ (o : Option OfferedFrame). IsFine o (Some (record { cause = cause; place = k.reader.passed + offset }))) (sym free) tt;
   }
 
-  reads_found : (is : IsReadSoFar k) → k.offered ≡ None → k.reader.failure ≡ None → Found k.here k.inlets k.reader.lane k.reader.rest → IsReadSoFar (told_reading k (seen_reading k.here k.inlets k.reader.lane k.reader.rest)).conn
-  reads_found is free fine (Read x seen e f sees turn) = subst (λ (r : Result (Seen × List ℕ) Stop). IsReadSoFar (told_reading k r).conn) (sym f) (reads_seen is x seen free fine e sees k.reader.lane refl turn)
-  reads_found is free fine (Stopped stop e f) = subst (λ (r : Result (Seen × List ℕ) Stop). IsReadSoFar (told_reading k r).conn) (sym f) (reads_stop is stop free fine e)
+  reads_found : (is : IsReadSoFar k) → k.offered ≡ None → k.reader.failure ≡ None → Found k.here k.inlets k.reader.lane k.reader.rest → IsReadSoFar (reading_step k (seen_reading k.here k.inlets k.reader.lane k.reader.rest)).conn
+  reads_found is free fine (Read x seen e f sees turn) = subst (λ (r : Result (Seen × List ℕ) ReadFault). IsReadSoFar (reading_step k r).conn) (sym f) (reads_seen is x seen free fine e sees k.reader.lane refl turn)
+  reads_found is free fine (Stopped stop e f) = subst (λ (r : Result (Seen × List ℕ) ReadFault). IsReadSoFar (reading_step k r).conn) (sym f) (reads_stop is stop free fine e)
 
-  reads_unless : (is : IsReadSoFar k) → k.offered ≡ None → (o : Option Failure) → k.reader.failure ≡ o → IsReadSoFar (told_unless o k).conn
+  reads_unless : (is : IsReadSoFar k) → k.offered ≡ None → (o : Option Failure) → k.reader.failure ≡ o → IsReadSoFar (step_unless_failed o k).conn
   reads_unless is free None fine = reads_found is free fine (found k.here k.inlets k.reader.lane k.reader.rest)
   reads_unless is free (Some failure) fine = is
 
-  reads_offered : (is : IsReadSoFar k) → (o : Option OfferedFrame) → k.offered ≡ o → IsReadSoFar (told_offered o k).conn
+  reads_offered : (is : IsReadSoFar k) → (o : Option OfferedFrame) → k.offered ≡ o → IsReadSoFar (step_unless_offered o k).conn
   reads_offered is None free = reads_unless is free k.reader.failure refl
   reads_offered is (Some o) free = is
 
@@ -304,7 +304,7 @@ module _ (s : Scheme) (plan : HostPlan) (link : List ℕ) (k : Connection) (is :
       ap (λ (xs : List Seen). hello_of (slice_get xs 0)) (items_now t fine e ∙ ap (λ (xs : List Seen). xs ++ seen_of_items k.here k.inlets t.items) (sym (all_taken k is free) ∙ first.1))
 
   -- what becomes of a frame, by its inlet
-  taken_by_inlet : (number : ℕ) (messages : List Message) (o : Option ℕ) → is_some o ≡ true → take_frame y number messages o ≡ Number (place_or_0 o) number (fresh_frame y number messages) (stale_frame y number)
+  taken_by_inlet : (number : ℕ) (messages : List Message) (o : Option ℕ) → is_some o ≡ true → take_frame y number messages o ≡ AsksInlet (place_or_0 o) number (fresh_frame y number messages) (stale_frame y number)
   taken_by_inlet number messages (Some i) there = refl
   taken_by_inlet number messages None there = absurd cc
 
@@ -316,39 +316,39 @@ module _ (s : Scheme) (plan : HostPlan) (link : List ℕ) (k : Connection) (is :
   one_more x e = step_ok (host_reading k.here k.inlets) (steady_host k.here k.inlets) k.reader.lane k.reader.passed k.reader.rest x e
 
   accepts_item : (x : Item × List ℕ) (seen : Seen) → k.reader.failure ≡ None → host_reading k.here k.inlets k.reader.lane k.reader.rest ≡ Ok x → host_item k.here k.inlets x.0 ≡ Ok seen → accept_free S here_plan y k.arrived [] None None ≡ accept_item S here_plan y k.arrived (Some seen)
-  accepts_item x seen fine e sees = asks (Some seen) (next_item (with_item x.0 (tail_of x)) fine (one_more x e) ∙ ap (λ (r : Result Seen Stop). slice_get (seen_or_none r ++ seen_of_items k.here k.inlets (tail_of x).items) 0) sees)
+  accepts_item x seen fine e sees = asks (Some seen) (next_item (with_item x.0 (tail_of x)) fine (one_more x e) ∙ ap (λ (r : Result Seen ReadFault). slice_get (seen_or_none r ++ seen_of_items k.here k.inlets (tail_of x).items) 0) sees)
 
   accepts_seen : (x : Item × List ℕ) (seen : Seen) → k.reader.failure ≡ None → HasInlet k.inlets k.reader.lane → host_reading k.here k.inlets k.reader.lane k.reader.rest ≡ Ok x → host_item k.here k.inlets x.0 ≡ Ok seen
-      → (lane : Option LaneCert) → k.reader.lane ≡ lane → IsSeenInTurn lane seen → Accepts link None (told_seen k seen x.1).answer (told_seen k seen x.1).conn (accept_free S here_plan y k.arrived [] None None)
+      → (lane : Option LaneCert) → k.reader.lane ≡ lane → IsSeenInTurn lane seen → Accepts link None (seen_step k seen x.1).answer (seen_step k seen x.1).conn (accept_free S here_plan y k.arrived [] None None)
   accepts_seen x (Hello l) fine inlet e sees None known turn =
       let count : suc (taken_of k) ≡ hellos_of (Some l) + frames_of k.entries = omega (arith, ap hellos_of known) in
-      accepts_item x (Hello l) fine e sees ∙ ap (λ (n : ℕ). Become (record y { taken = n })) count
+      accepts_item x (Hello l) fine e sees ∙ ap (λ (n : ℕ). ConnInternal (record y { taken = n })) count
   accepts_seen x (Framed number messages) fine inlet e sees None known turn = absurd turn
   accepts_seen x (Hello l) fine inlet e sees (Some before) known turn = absurd turn
   accepts_seen x (Framed number messages) fine inlet e sees (Some before) known turn =
       let there : is_some (inlet_at k.inlets before) ≡ true = subst (λ (o : Option LaneCert). HasInlet k.inlets o) known inlet in
-      let after = (told_seen k (Framed number messages) x.1).conn in
+      let after = (seen_step k (Framed number messages) x.1).conn in
       accepts_item x (Framed number messages) fine e sees
       ∙ (ap (frame_from here_plan y number messages) (peer_now before (with_item x.0 (tail_of x)) fine (one_more x e) known)
       ∙ (taken_by_inlet number messages (inlet_at k.inlets before) there
-      ∙ (ap (λ (i : ℕ). Number i number (fresh_frame y number messages) (stale_frame y number)) (sym (ap (seat k.inlets) known))
-      ∙ ap₂ (λ (f g : Conn). Number (seat k.inlets k.reader.lane) number f g) (sym (plain_fresh link None after (frame_seen k number messages) refl)) (sym (plain_stale link None after (frame_seen k number messages) refl)))))
+      ∙ (ap (λ (i : ℕ). AsksInlet i number (fresh_frame y number messages) (stale_frame y number)) (sym (ap (lane_inlet k.inlets) known))
+      ∙ ap₂ (λ (f g : Conn). AsksInlet (lane_inlet k.inlets k.reader.lane) number f g) (sym (plain_fresh link None after (frame_seen k number messages) refl)) (sym (plain_stale link None after (frame_seen k number messages) refl)))))
 
   nothing_more_read : (t : Stream) (o : Option SeenFailure) → k.reader.failure ≡ None → following ≡ t → t.items ≡ [] → seen_failure t.ending ≡ o → accept_free S here_plan y k.arrived [] None None ≡ fail y o
   nothing_more_read t o fine e none ends =
       asks None (next_item t fine e ∙ ap (λ (xs : List Item). slice_get (seen_of_items k.here k.inlets xs) 0) none)
       ∙ ap (fail y) (ap (λ (u : Stream). seen_failure u.ending) (whole fine ∙ ap (with_front is.handed) e) ∙ ends)
 
-  accepts_stop : (stop : Stop) → k.reader.failure ≡ None → host_reading k.here k.inlets k.reader.lane k.reader.rest ≡ Err stop → Accepts link None (told_reading k (Err stop)).answer (told_reading k (Err stop)).conn (accept_free S here_plan y k.arrived [] None None)
+  accepts_stop : (stop : ReadFault) → k.reader.failure ≡ None → host_reading k.here k.inlets k.reader.lane k.reader.rest ≡ Err stop → Accepts link None (reading_step k (Err stop)).answer (reading_step k (Err stop)).conn (accept_free S here_plan y k.arrived [] None None)
   accepts_stop Open fine e = nothing_more_read _ None fine (step_err (host_reading k.here k.inlets) (steady_host k.here k.inlets) k.reader.lane k.reader.passed k.reader.rest Open e) refl refl
   accepts_stop (Broken cause offset) fine e = nothing_more_read _ (seen_failure (Some (record { cause = cause; place = k.reader.passed + offset }))) fine (step_err (host_reading k.here k.inlets) (steady_host k.here k.inlets) k.reader.lane k.reader.passed k.reader.rest (Broken cause offset) e) refl refl
 
   accepts_found : k.reader.failure ≡ None → HasInlet k.inlets k.reader.lane → Found k.here k.inlets k.reader.lane k.reader.rest
-      → Accepts link None (told_reading k (seen_reading k.here k.inlets k.reader.lane k.reader.rest)).answer (told_reading k (seen_reading k.here k.inlets k.reader.lane k.reader.rest)).conn (accept_free S here_plan y k.arrived [] None None)
-  accepts_found fine inlet (Read x seen e f sees turn) = subst (λ (r : Result (Seen × List ℕ) Stop). Accepts link None (told_reading k r).answer (told_reading k r).conn (accept_free S here_plan y k.arrived [] None None)) (sym f) (accepts_seen x seen fine inlet e sees k.reader.lane refl turn)
-  accepts_found fine inlet (Stopped stop e f) = subst (λ (r : Result (Seen × List ℕ) Stop). Accepts link None (told_reading k r).answer (told_reading k r).conn (accept_free S here_plan y k.arrived [] None None)) (sym f) (accepts_stop stop fine e)
+      → Accepts link None (reading_step k (seen_reading k.here k.inlets k.reader.lane k.reader.rest)).answer (reading_step k (seen_reading k.here k.inlets k.reader.lane k.reader.rest)).conn (accept_free S here_plan y k.arrived [] None None)
+  accepts_found fine inlet (Read x seen e f sees turn) = subst (λ (r : Result (Seen × List ℕ) ReadFault). Accepts link None (reading_step k r).answer (reading_step k r).conn (accept_free S here_plan y k.arrived [] None None)) (sym f) (accepts_seen x seen fine inlet e sees k.reader.lane refl turn)
+  accepts_found fine inlet (Stopped stop e f) = subst (λ (r : Result (Seen × List ℕ) ReadFault). Accepts link None (reading_step k r).answer (reading_step k r).conn (accept_free S here_plan y k.arrived [] None None)) (sym f) (accepts_stop stop fine e)
 
-  accepts_unless : (o : Option Failure) → k.reader.failure ≡ o → HasInlet k.inlets k.reader.lane → Accepts link o (told_unless o k).answer (told_unless o k).conn (accept_free S here_plan y k.arrived [] None (seen_failure o))
+  accepts_unless : (o : Option Failure) → k.reader.failure ≡ o → HasInlet k.inlets k.reader.lane → Accepts link o (step_unless_failed o k).answer (step_unless_failed o k).conn (accept_free S here_plan y k.arrived [] None (seen_failure o))
   accepts_unless None fine inlet = accepts_found fine inlet (found k.here k.inlets k.reader.lane k.reader.rest)
   accepts_unless (Some failure) broken inlet = refl
 
@@ -375,8 +375,8 @@ module _ (s : Scheme) (plan : HostPlan) (link : List ℕ) (k : Connection) (is :
   fine_now : k.reader.failure ≡ None
   fine_now = subst (λ (x : Option OfferedFrame). IsFine x k.reader.failure) there is.fine
 
-  accepts_by : (lane : Option LaneCert) → k.reader.lane ≡ lane → seat_of k.inlets lane ≡ Some o.inlet
-      → accept_free (inlet_scheme s) (inlet_plan plan k) (plain_conn link None k) k.arrived [] None None ≡ Number o.inlet o.number (plain_conn link None (settled_as true (Some o) k)) (plain_conn link None (settled_as false (Some o) k))
+  accepts_by : (lane : Option LaneCert) → k.reader.lane ≡ lane → lane_inlet_of k.inlets lane ≡ Some o.inlet
+      → accept_free (inlet_scheme s) (inlet_plan plan k) (plain_conn link None k) k.arrived [] None None ≡ AsksInlet o.inlet o.number (plain_conn link None (settled_as true (Some o) k)) (plain_conn link None (settled_as false (Some o) k))
   accepts_by None known seated = absurd cc
   accepts_by (Some lane) known seated =
       let y : Conn = plain_conn link None k in
@@ -384,43 +384,43 @@ module _ (s : Scheme) (plan : HostPlan) (link : List ℕ) (k : Connection) (is :
       ap (accept_item (inlet_scheme s) (inlet_plan plan k) y k.arrived) item
       ∙ (ap (frame_from (inlet_plan plan k) y o.number o.messages) (peer_offered lane known)
       ∙ (ap (take_frame y o.number o.messages) seated
-      ∙ ap₂ (λ (f g : Conn). Number o.inlet o.number f g)
+      ∙ ap₂ (λ (f g : Conn). AsksInlet o.inlet o.number f g)
         (sym (subst (λ (x : Option OfferedFrame). plain_conn link None (settled_as true x k) ≡ fresh_frame y o.number o.messages) there (plain_fresh link None k o there)))
         (sym (subst (λ (x : Option OfferedFrame). plain_conn link None (settled_as false x k) ≡ stale_frame y o.number) there (plain_stale link None k o there)))))
 
-accepts_offered : (s : Scheme) (plan : HostPlan) (link : List ℕ) (k : Connection) (is : IsReadSoFar k) → HasInlet k.inlets k.reader.lane → (o : Option OfferedFrame) → k.offered ≡ o → IsSeated (seat_of k.inlets k.reader.lane) o
-    → Accepts link k.reader.failure (told_offered o k).answer (told_offered o k).conn (accept_free (inlet_scheme s) (inlet_plan plan k) (plain_conn link None k) k.arrived [] None (seen_failure k.reader.failure))
+accepts_offered : (s : Scheme) (plan : HostPlan) (link : List ℕ) (k : Connection) (is : IsReadSoFar k) → HasInlet k.inlets k.reader.lane → (o : Option OfferedFrame) → k.offered ≡ o → IsForInlet (lane_inlet_of k.inlets k.reader.lane) o
+    → Accepts link k.reader.failure (step_unless_offered o k).answer (step_unless_offered o k).conn (accept_free (inlet_scheme s) (inlet_plan plan k) (plain_conn link None k) k.arrived [] None (seen_failure k.reader.failure))
 accepts_offered s plan link k is inlet None free seated = accepts_unless s plan link k is free k.reader.failure refl inlet
 accepts_offered s plan link k is inlet (Some o) there seated =
     ap (λ (f : Option Failure). accept_free (inlet_scheme s) (inlet_plan plan k) (plain_conn link None k) k.arrived [] None (seen_failure f)) (fine_now s plan link k is o there)
     ∙ (accepts_by s plan link k is o there k.reader.lane refl seated
-    ∙ ap₂ (λ (f g : Conn). Number o.inlet o.number f g) (ap (λ (x : Option OfferedFrame). plain_conn link None (settled_as true x k)) (sym there)) (ap (λ (x : Option OfferedFrame). plain_conn link None (settled_as false x k)) (sym there)))
+    ∙ ap₂ (λ (f g : Conn). AsksInlet o.inlet o.number f g) (ap (λ (x : Option OfferedFrame). plain_conn link None (settled_as true x k)) (sym there)) (ap (λ (x : Option OfferedFrame). plain_conn link None (settled_as false x k)) (sym there)))
 
 pub accepts : IsPlainAccept
 accepts s plan link k is inlet seated hand =
-    subst (λ (hs : List Message). Accepts link k.reader.failure (told_read k).answer (told_read k).conn (accept_free (inlet_scheme s) (inlet_plan plan k) (plain_conn link None k) k.arrived hs None (seen_failure k.reader.failure))) (sym hand)
+    subst (λ (hs : List Message). Accepts link k.reader.failure (read_step k).answer (read_step k).conn (accept_free (inlet_scheme s) (inlet_plan plan k) (plain_conn link None k) k.arrived hs None (seen_failure k.reader.failure))) (sym hand)
     (accepts_offered s plan link k is inlet k.offered refl seated)
 
 -- OF THE CODE'S CALLS
 
 -- after an item that the host sees, and after a fault
-pub reads_ok : (k : Connection) (x : Seen × List ℕ) → IsReadSoFar k → k.offered ≡ None → k.reader.failure ≡ None → seen_reading k.here k.inlets k.reader.lane k.reader.rest ≡ Ok x → IsReadSoFar (told_seen k x.0 x.1).conn
-reads_ok k x is free fine e = subst (λ (r : Result (Seen × List ℕ) Stop). IsReadSoFar (told_reading k r).conn) e (reads_found k is free fine (found k.here k.inlets k.reader.lane k.reader.rest))
+pub reads_ok : (k : Connection) (x : Seen × List ℕ) → IsReadSoFar k → k.offered ≡ None → k.reader.failure ≡ None → seen_reading k.here k.inlets k.reader.lane k.reader.rest ≡ Ok x → IsReadSoFar (seen_step k x.0 x.1).conn
+reads_ok k x is free fine e = subst (λ (r : Result (Seen × List ℕ) ReadFault). IsReadSoFar (reading_step k r).conn) e (reads_found k is free fine (found k.here k.inlets k.reader.lane k.reader.rest))
 
 pub reads_broken : (k : Connection) (cause : Cause) (offset : ℕ) → IsReadSoFar k → k.offered ≡ None → k.reader.failure ≡ None → seen_reading k.here k.inlets k.reader.lane k.reader.rest ≡ Err (Broken cause offset)
     → IsReadSoFar (record k { reader = record k.reader { failure = Some (record { cause = cause; place = k.reader.passed + offset }) } })
-reads_broken k cause offset is free fine e = subst (λ (r : Result (Seen × List ℕ) Stop). IsReadSoFar (told_reading k r).conn) e (reads_found k is free fine (found k.here k.inlets k.reader.lane k.reader.rest))
+reads_broken k cause offset is free fine e = subst (λ (r : Result (Seen × List ℕ) ReadFault). IsReadSoFar (reading_step k r).conn) e (reads_found k is free fine (found k.here k.inlets k.reader.lane k.reader.rest))
 
 -- what a call of read told, it told of the plain world's accept
-pub accepts_reads : (k : Connection) (result : Result Offer ReadEnd) (after : Connection) → IsReadSoFar k → HasInlet k.inlets k.reader.lane → IsSeated (seat_of k.inlets k.reader.lane) k.offered → k.hand ≡ [] → Reads k result after
+pub accepts_reads : (k : Connection) (result : Result Offer ReadEnd) (after : Connection) → IsReadSoFar k → HasInlet k.inlets k.reader.lane → IsForInlet (lane_inlet_of k.inlets k.reader.lane) k.offered → k.hand ≡ [] → Reads k result after
     → (s : Scheme) (plan : HostPlan) (link : List ℕ) → Accepts link k.reader.failure result after (accept (inlet_scheme s) (inlet_plan plan k) (plain_conn link None k) k.arrived)
 accepts_reads k result after is inlet seated hand reads s plan link = go result reads
   where
     ask : ConnAsk
     ask = accept (inlet_scheme s) (inlet_plan plan k) (plain_conn link None k) k.arrived
 
-    told : (r : Result Offer ReadEnd) → told_read k ≡ record { answer = r; conn = after } → Accepts link k.reader.failure r after ask
-    told r e = subst (λ (t : Told). Accepts link k.reader.failure t.answer t.conn ask) e (accepts s plan link k is inlet seated hand)
+    told : (r : Result Offer ReadEnd) → read_step k ≡ record { answer = r; conn = after } → Accepts link k.reader.failure r after ask
+    told r e = subst (λ (t : ReadStep). Accepts link k.reader.failure t.answer t.conn ask) e (accepts s plan link k is inlet seated hand)
 
     go : (r : Result Offer ReadEnd) → Reads k r after → Accepts link k.reader.failure r after ask
     go (Ok offer) e = told (Ok offer) e

@@ -8,7 +8,7 @@ use Rattle.ds_msg.specs.declared.message.Message.{Message}
 use Rattle.ds_frame.specs.declared.cause.Cause.TheVariants as causes
 use Rattle.ds_frame.specs.declared.item.Item.{Item}
 use Rattle.ds_frame.specs.declared.item.Item.TheVariants as items
-use Rattle.ds_frame.specs.Fields.{Stop, Broken}
+use Rattle.ds_frame.specs.Fields.{ReadFault, Broken}
 use Rattle.ds_frame.specs.Checks.{read_hello, read_item}
 use Rattle.ds_model.specs.Keys.{same_key}
 use Rattle.ds_model.specs.Scheme.{InletName, Item as Seen, Hello, Framed}
@@ -20,10 +20,10 @@ abbrev IsInOrder : Option LaneCert → Item → Type 0
 IsInOrder before (items.Hello lane) = Unit {0}
 IsInOrder before (items.Frame frame) = is_some before ≡ true
 
-abbrev item_ok : Item × List ℕ → Result (Item × List ℕ) Stop
+abbrev item_ok : Item × List ℕ → Result (Item × List ℕ) ReadFault
 item_ok x = Ok x
 
-abbrev seen_ok : Seen → Result Seen Stop
+abbrev seen_ok : Seen → Result Seen ReadFault
 seen_ok seen = Ok seen
 
 in_order_after : (lane : LaneCert) (item : Item) → IsInOrder (Some lane) item

@@ -3,7 +3,7 @@ use Rattle.std.proofs.Common.{◌≡◌, ℕ, suc, ◌+◌, ◌≤◌, true, fal
 use Rattle.ds_cert.specs.declared.lane.LaneCert.{LaneCert}
 use Rattle.ds_msg.specs.declared.message.Message.{Message}
 use Rattle.ds_model.specs.World.{Conn, ConnLine}
-use Rattle.ds_model.specs.Connecting.{fresh_frame, stale_frame, told_delivery, passed_of}
+use Rattle.ds_model.specs.ConnectionStep.{fresh_frame, stale_frame, delivery_after_reply, passed_of}
 use Rattle.ds_inlet.specs.declared.offer.ConnEntry.{ConnEntry}
 use Rattle.ds_inlet.specs.declared.offer.ConnEntry.TheVariants as entries
 use Rattle.ds_inlet.specs.OfferedFrames.{OfferedFrame}
@@ -45,12 +45,12 @@ plain_stale link passed k o e =
 
 pub plain_pass : IsPlainPass
 plain_pass link before k lane first rest message e =
-    subst (λ (ms : List Message). plain_conn link (Some (passed_of lane first)) (passed_from message ms k) ≡ told_delivery lane first rest None (plain_conn link before k)) (sym e)
+    subst (λ (ms : List Message). plain_conn link (Some (passed_of lane first)) (passed_from message ms k) ≡ delivery_after_reply lane first rest None (plain_conn link before k)) (sym e)
     (both (record (plain_conn link before k) { hand = rest; passed = Some (passed_of lane first) }) _ _ _ _ (none_taken k.reader.lane k.entries (entries.Pass first.slot) refl) (lines_push k.entries (entries.Pass first.slot)))
 
 pub plain_drop : IsPlainDrop
 plain_drop link passed k lane first rest rule e =
-    subst (λ (ms : List Message). plain_conn link passed (refused_from rule ms k) ≡ told_delivery lane first rest (Some rule) (plain_conn link passed k)) (sym e)
+    subst (λ (ms : List Message). plain_conn link passed (refused_from rule ms k) ≡ delivery_after_reply lane first rest (Some rule) (plain_conn link passed k)) (sym e)
     (both (record (plain_conn link passed k) { hand = rest }) _ _ _ _ (none_taken k.reader.lane k.entries (entries.Drop rule first.slot) refl) (lines_push k.entries (entries.Drop rule first.slot)))
 
 pub plain_hand : IsPlainHand

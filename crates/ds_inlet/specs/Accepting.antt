@@ -12,13 +12,13 @@ use Rattle.ds_frame.specs.declared.item.ReadEnd.TheVariants as ends
 use Rattle.ds_frame.specs.SoFar.{IsSoFar}
 use Rattle.ds_model.specs.Scheme.{Scheme, InletName, Item as Seen, Hello}
 use Rattle.ds_model.specs.Plan.{HostPlan}
-use Rattle.ds_model.specs.Connecting.{ConnAsk, Quiet, Become, Number, accept}
+use Rattle.ds_model.specs.ConnectionStep.{ConnAsk, ConnWaits, ConnInternal, AsksInlet, accept}
 use Rattle.ds_inlet.specs.declared.offer.Offer.{Offer}
 use Rattle.ds_inlet.specs.declared.offer.Offer.TheVariants as offers
 use Rattle.ds_inlet.specs.Hosts.{host_reading, seen_of_items, items_of, ending_of}
 use Rattle.ds_inlet.specs.Reads.{frame_read}
 use Rattle.ds_inlet.specs.OfferedFrames.{OfferedFrame}
-use Rattle.ds_inlet.specs.Connections.{Connection, HasInlet, IsSeated, seat_of, new_connection, arrived_more, told_read, settled, passed_on, refused_by}
+use Rattle.ds_inlet.specs.Connections.{Connection, HasInlet, IsForInlet, lane_inlet_of, new_connection, arrived_more, read_step, settled, passed_on, refused_by}
 use Rattle.ds_inlet.specs.PlainConnections.{plain_conn, taken_of}
 
 -- the hello was read first; where none was, nothing was read
@@ -45,7 +45,7 @@ pub record IsReadSoFar (k : Connection) : Type 0 where
 pub record StaysReadSoFar : Type 0 where
   pub new : (who : Actor) (here : PubKey) (inlets : List InletName) → IsReadSoFar (new_connection who here inlets)
   pub arrives : (piece : List ℕ) (k : Connection) → IsReadSoFar k → IsReadSoFar (arrived_more piece k)
-  pub reads : (k : Connection) → IsReadSoFar k → IsReadSoFar (told_read k).conn
+  pub reads : (k : Connection) → IsReadSoFar k → IsReadSoFar (read_step k).conn
   pub settles : (fresh : Bool) (k : Connection) → IsReadSoFar k → IsReadSoFar (settled fresh k)
   pub passes : (message : LocalMessage) (k : Connection) → IsReadSoFar k → IsReadSoFar (passed_on message k)
   pub drops : (rule : Rule) (k : Connection) → IsReadSoFar k → IsReadSoFar (refused_by rule k)
@@ -60,19 +60,19 @@ inlet_plan plan k = record plan { key = k.here; silent = false; inlets = k.inlet
 
 -- a stream that breaks makes the connection fail; one that was broken before changes nothing
 abbrev pub FailsOnce : (link : List ℕ) → Option Failure → (after : Connection) → ConnAsk → Type 0
-FailsOnce link None after ask = ask ≡ Become (plain_conn link None after)
-FailsOnce link (Some failure) after ask = ask ≡ Quiet
+FailsOnce link None after ask = ask ≡ ConnInternal (plain_conn link None after)
+FailsOnce link (Some failure) after ask = ask ≡ ConnWaits
 
 -- What a call of read, on a connection with this failure before, says of the plain world's accept. An offered frame asks the
 -- inlet, and what becomes of it is settled by the answer.
 abbrev pub Accepts : (link : List ℕ) → Option Failure → Result Offer ReadEnd → (after : Connection) → ConnAsk → Type 0
-Accepts link failure (Ok offers.Hello) after ask = ask ≡ Become (plain_conn link None after)
-Accepts link failure (Ok (offers.Frame inlet number)) after ask = ask ≡ Number inlet number (plain_conn link None (settled true after)) (plain_conn link None (settled false after))
-Accepts link failure (Err ends.NotYet) after ask = ask ≡ Quiet
+Accepts link failure (Ok offers.Hello) after ask = ask ≡ ConnInternal (plain_conn link None after)
+Accepts link failure (Ok (offers.Frame inlet number)) after ask = ask ≡ AsksInlet inlet number (plain_conn link None (settled true after)) (plain_conn link None (settled false after))
+Accepts link failure (Err ends.NotYet) after ask = ask ≡ ConnWaits
 Accepts link failure (Err (ends.BadFrame cause place)) after ask = FailsOnce link failure after ask
 Accepts link failure (Err ends.NoMemory) after ask = Unit {0}
 
 -- a connection with nothing in hand or passed accepts as the plain world's does, also where a frame was offered before
 abbrev pub IsPlainAccept : Type 0
-IsPlainAccept = (s : Scheme) (plan : HostPlan) (link : List ℕ) (k : Connection) → IsReadSoFar k → HasInlet k.inlets k.reader.lane → IsSeated (seat_of k.inlets k.reader.lane) k.offered → k.hand ≡ []
-    → Accepts link k.reader.failure (told_read k).answer (told_read k).conn (accept (inlet_scheme s) (inlet_plan plan k) (plain_conn link None k) k.arrived)
+IsPlainAccept = (s : Scheme) (plan : HostPlan) (link : List ℕ) (k : Connection) → IsReadSoFar k → HasInlet k.inlets k.reader.lane → IsForInlet (lane_inlet_of k.inlets k.reader.lane) k.offered → k.hand ≡ []
+    → Accepts link k.reader.failure (read_step k).answer (read_step k).conn (accept (inlet_scheme s) (inlet_plan plan k) (plain_conn link None k) k.arrived)

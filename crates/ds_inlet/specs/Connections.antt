@@ -13,7 +13,7 @@ use Rattle.ds_frame.specs.declared.cause.Cause.{Cause}
 use Rattle.ds_frame.specs.declared.item.Failure.{Failure}
 use Rattle.ds_frame.specs.declared.item.ReadEnd.{ReadEnd}
 use Rattle.ds_frame.specs.declared.item.ReadEnd.TheVariants as ends
-use Rattle.ds_frame.specs.Fields.{Stop, Open, Broken}
+use Rattle.ds_frame.specs.Fields.{ReadFault, Open, Broken}
 use Rattle.ds_frame.specs.Reader.{Reader, fed, new_reader}
 use Rattle.ds_model.specs.Scheme.{InletName, Item as Seen, Hello, Framed}
 use Rattle.ds_inlet.specs.Hosts.{inlet_at, seen_reading}
@@ -38,7 +38,7 @@ pub record Connection : Type 0 where
   pub entries : List ConnEntry
 
 -- a connection, for how many entries there is memory, and for how many bytes
-pub record RoomyConnection : Type 0 where
+pub record ConnectionWithCapacity : Type 0 where
   pub conn : Connection
   pub spare : ℕ
   pub space : ℕ
@@ -63,7 +63,7 @@ IsOffered offers.Hello offered = offered ≡ None
 IsOffered (offers.Frame inlet number) offered = IsOfferedAt inlet number offered
 
 -- what a call of read answers, and the connection after it
-pub record Told : Type 0 where
+pub record ReadStep : Type 0 where
   pub answer : Result Offer ReadEnd
   pub conn : Connection
 
@@ -73,13 +73,13 @@ place_or_0 None = 0
 place_or_0 (Some place) = place
 
 -- the inlet of the lane whose certificate was read, if there is one
-abbrev pub seat_of : List InletName → Option LaneCert → Option ℕ
-seat_of inlets None = None
-seat_of inlets (Some lane) = inlet_at inlets lane
+abbrev pub lane_inlet_of : List InletName → Option LaneCert → Option ℕ
+lane_inlet_of inlets None = None
+lane_inlet_of inlets (Some lane) = inlet_at inlets lane
 
 -- The inlet of the lane whose certificate was read. Where a frame is read there is one, since its hello was admitted.
-abbrev pub seat : List InletName → Option LaneCert → ℕ
-seat inlets lane = place_or_0 (seat_of inlets lane)
+abbrev pub lane_inlet : List InletName → Option LaneCert → ℕ
+lane_inlet inlets lane = place_or_0 (lane_inlet_of inlets lane)
 
 -- the lane whose certificate was read has an inlet
 abbrev pub HasInlet : List InletName → Option LaneCert → Type 0
@@ -87,9 +87,9 @@ HasInlet inlets None = Unit {0}
 HasInlet inlets (Some lane) = is_some (inlet_at inlets lane) ≡ true
 
 -- an offered frame is for the inlet at that place
-abbrev pub IsSeated : Option ℕ → Option OfferedFrame → Type 0
-IsSeated place None = Unit {0}
-IsSeated place (Some o) = place ≡ Some o.inlet
+abbrev pub IsForInlet : Option ℕ → Option OfferedFrame → Type 0
+IsForInlet place None = Unit {0}
+IsForInlet place (Some o) = place ≡ Some o.inlet
 
 -- each message of an offered frame is in range
 abbrev pub AreOfferedInRange : Option OfferedFrame → Type 0
@@ -105,9 +105,9 @@ IsShortPassed None = Unit {0}
 IsShortPassed (Some p) = IsShortMessage p.1
 
 -- A hello that was read has an inlet, and a frame that is offered is for that inlet; the messages are in range.
-pub record IsAdmitted (k : Connection) : Type 0 where
+pub record IsAccepted (k : Connection) : Type 0 where
   pub lane : HasInlet k.inlets k.reader.lane
-  pub offered : IsSeated (seat_of k.inlets k.reader.lane) k.offered
+  pub offered : IsForInlet (lane_inlet_of k.inlets k.reader.lane) k.offered
   pub offered_range : AreOfferedInRange k.offered
   pub hand : All MessageRange k.hand
   pub passed : IsShortPassed k.passed
@@ -132,37 +132,37 @@ abbrev pub read_past : Option LaneCert → List ℕ → Reader → Reader
 read_past lane rest r = record r { rest = rest; passed = r.passed + (length r.rest - length rest); lane = lane }
 
 abbrev pub frame_seen : Connection → (number : ℕ) → List Message → OfferedFrame
-frame_seen k number messages = record { inlet = seat k.inlets k.reader.lane; number = number; messages = messages }
+frame_seen k number messages = record { inlet = lane_inlet k.inlets k.reader.lane; number = number; messages = messages }
 
 -- a hello is taken, and a frame offered
-abbrev pub told_seen : Connection → Seen → List ℕ → Told
-told_seen k (Hello lane) rest = record { answer = Ok offers.Hello; conn = record k { reader = read_past (Some lane) rest k.reader } }
-told_seen k (Framed number messages) rest = record { answer = Ok (offers.Frame (seat k.inlets k.reader.lane) number); conn = record k { reader = read_past k.reader.lane rest k.reader; offered = Some (frame_seen k number messages) } }
+abbrev pub seen_step : Connection → Seen → List ℕ → ReadStep
+seen_step k (Hello lane) rest = record { answer = Ok offers.Hello; conn = record k { reader = read_past (Some lane) rest k.reader } }
+seen_step k (Framed number messages) rest = record { answer = Ok (offers.Frame (lane_inlet k.inlets k.reader.lane) number); conn = record k { reader = read_past k.reader.lane rest k.reader; offered = Some (frame_seen k number messages) } }
 
 -- a broken stream fails for ever
-abbrev pub told_reading : Connection → Result (Seen × List ℕ) Stop → Told
-told_reading k (Ok x) = told_seen k x.0 x.1
-told_reading k (Err Open) = record { answer = Err ends.NotYet; conn = k }
-told_reading k (Err (Broken cause offset)) = record { answer = Err (ends.BadFrame cause (k.reader.passed + offset)); conn = record k { reader = record k.reader { failure = Some (record { cause = cause; place = k.reader.passed + offset }) } } }
+abbrev pub reading_step : Connection → Result (Seen × List ℕ) ReadFault → ReadStep
+reading_step k (Ok x) = seen_step k x.0 x.1
+reading_step k (Err Open) = record { answer = Err ends.NotYet; conn = k }
+reading_step k (Err (Broken cause offset)) = record { answer = Err (ends.BadFrame cause (k.reader.passed + offset)); conn = record k { reader = record k.reader { failure = Some (record { cause = cause; place = k.reader.passed + offset }) } } }
 
-abbrev pub told_unless : Option Failure → Connection → Told
-told_unless None k = told_reading k (seen_reading k.here k.inlets k.reader.lane k.reader.rest)
-told_unless (Some failure) k = record { answer = Err (ends.BadFrame failure.cause failure.place); conn = k }
+abbrev pub step_unless_failed : Option Failure → Connection → ReadStep
+step_unless_failed None k = reading_step k (seen_reading k.here k.inlets k.reader.lane k.reader.rest)
+step_unless_failed (Some failure) k = record { answer = Err (ends.BadFrame failure.cause failure.place); conn = k }
 
 -- an offered frame stays offered
-abbrev pub told_offered : Option OfferedFrame → Connection → Told
-told_offered None k = told_unless k.reader.failure k
-told_offered (Some o) k = record { answer = Ok (offers.Frame o.inlet o.number); conn = k }
+abbrev pub step_unless_offered : Option OfferedFrame → Connection → ReadStep
+step_unless_offered None k = step_unless_failed k.reader.failure k
+step_unless_offered (Some o) k = record { answer = Ok (offers.Frame o.inlet o.number); conn = k }
 
-abbrev pub told_read : Connection → Told
-told_read k = told_offered k.offered k
+abbrev pub read_step : Connection → ReadStep
+read_step k = step_unless_offered k.offered k
 
 -- What a call of read did: what the definition says, or nothing where memory ran out.
 abbrev pub Reads : (before : Connection) → Result Offer ReadEnd → (after : Connection) → Type 0
 Reads before (Err ends.NoMemory) after = after ≡ before
-Reads before (Err ends.NotYet) after = told_read before ≡ record { answer = Err ends.NotYet; conn = after }
-Reads before (Err (ends.BadFrame cause place)) after = told_read before ≡ record { answer = Err (ends.BadFrame cause place); conn = after }
-Reads before (Ok offer) after = told_read before ≡ record { answer = Ok offer; conn = after }
+Reads before (Err ends.NotYet) after = read_step before ≡ record { answer = Err ends.NotYet; conn = after }
+Reads before (Err (ends.BadFrame cause place)) after = read_step before ≡ record { answer = Err (ends.BadFrame cause place); conn = after }
+Reads before (Ok offer) after = read_step before ≡ record { answer = Ok offer; conn = after }
 
 -- failed at that place for ever, unless memory ran out
 abbrev pub FailsAt : (before : Connection) → Cause → (place : ℕ) → ReadEnd → (after : Connection) → Type 0

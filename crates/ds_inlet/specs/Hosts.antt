@@ -10,7 +10,7 @@ use Rattle.ds_frame.specs.declared.item.Item.{Item}
 use Rattle.ds_frame.specs.declared.item.Item.TheVariants as items
 use Rattle.ds_frame.specs.declared.item.Failure.{Failure}
 use Rattle.ds_frame.specs.Causes.{cause_number}
-use Rattle.ds_frame.specs.Fields.{Stop, Broken}
+use Rattle.ds_frame.specs.Fields.{ReadFault, Broken}
 use Rattle.ds_frame.specs.Checks.{read_item}
 use Rattle.ds_frame.specs.Reader.{Reading}
 use Rattle.ds_frame.specs.Streams.{stream_by}
@@ -22,22 +22,22 @@ abbrev pub inlet_at : List InletName → LaneCert → Option ℕ
 inlet_at inlets lane = position (λ i. same_key i.exporter lane.exporter && (i.lane == lane.lane)) inlets
 
 -- there is such an inlet
-abbrev pub declared_lane : LaneCert → Option ℕ → Result LaneCert Stop
+abbrev pub declared_lane : LaneCert → Option ℕ → Result LaneCert ReadFault
 declared_lane lane (Some inlet) = Ok lane
 declared_lane lane None = Err (Broken causes.NoInlet 6)
 
 -- A hello's lane leads to this host, which has an inlet for it. The certificate stands six bytes behind the hello's first.
-abbrev pub admitted : PubKey → List InletName → LaneCert → Result LaneCert Stop
+abbrev pub admitted : PubKey → List InletName → LaneCert → Result LaneCert ReadFault
 admitted here inlets lane = if same_key lane.receiver here then declared_lane lane (inlet_at inlets lane) else Err (Broken causes.HelloReceiver 6)
 
 -- the message that these bytes spell; they stand at that place
-abbrev pub message_or : (place : ℕ) → Result Message ℕ → Result Message Stop
+abbrev pub message_or : (place : ℕ) → Result Message ℕ → Result Message ReadFault
 message_or place (Ok message) = Ok message
 message_or place (Err fault) = Err (Broken causes.Body place)
 
 -- The messages that these bytes spell, or the place of the first ones that spell none. The first one's count stands at that
 -- place, and its bytes four behind.
-abbrev pub messages_from : (place : ℕ) → List (List ℕ) → Result (List Message) Stop
+abbrev pub messages_from : (place : ℕ) → List (List ℕ) → Result (List Message) ReadFault
 messages_from place [] = Ok []
 messages_from place (bytes ∷ later) = do
   message ← message_or (place + 4) (read_message bytes)
@@ -45,7 +45,7 @@ messages_from place (bytes ∷ later) = do
   Ok (message ∷ messages)
 
 -- What the host sees of an item. A frame's body stands 11 bytes behind the frame's first.
-unfoldable pub host_item : PubKey → List InletName → Item → Result Seen Stop
+unfoldable pub host_item : PubKey → List InletName → Item → Result Seen ReadFault
 host_item here inlets (items.Hello lane) = do
   l ← admitted here inlets lane
   Ok (Hello l)
@@ -54,7 +54,7 @@ host_item here inlets (items.Frame frame) = do
   Ok (Framed frame.number messages)
 
 -- what the host sees of the item at the front, and what follows it
-unfoldable pub seen_reading : PubKey → List InletName → Option LaneCert → List ℕ → Result (Seen × List ℕ) Stop
+unfoldable pub seen_reading : PubKey → List InletName → Option LaneCert → List ℕ → Result (Seen × List ℕ) ReadFault
 seen_reading here inlets lane bytes = do
   x ← read_item lane bytes
   seen ← host_item here inlets x.0
@@ -68,7 +68,7 @@ host_reading here inlets lane bytes = do
   Ok x
 
 -- what was read, or nothing
-abbrev pub seen_or_none : Result Seen Stop → List Seen
+abbrev pub seen_or_none : Result Seen ReadFault → List Seen
 seen_or_none (Ok seen) = seen ∷ []
 seen_or_none (Err stop) = []
 

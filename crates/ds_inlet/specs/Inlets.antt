@@ -19,7 +19,7 @@ pub record CountedLane : Type 0 where
   pub number : Option ℕ
 
 -- an inlet, and for how many calls there is memory
-pub record RoomyInlet : Type 0 where
+pub record InletWithCapacity : Type 0 where
   pub inlet : CountedLane
   pub spare : ℕ
 

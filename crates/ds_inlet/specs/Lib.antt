@@ -1,10 +1,10 @@
 pub mod Inlets
-pub mod Sound
+pub mod InletInside
 pub mod Hosts
-pub mod Seen
+pub mod ItemInside
 pub mod OfferedFrames
 pub mod Connections
-pub mod Fields
+pub mod ConnInside
 pub mod Reads
 pub mod PlainConnections
 pub mod Accepting

@@ -5,7 +5,7 @@ use Rattle.ds_cert.specs.declared.lane.LaneCert.{LaneCert}
 use Rattle.ds_msg.specs.declared.message.Message.{Message}
 use Rattle.ds_msg.specs.declared.local.LocalMessage.{LocalMessage}
 use Rattle.ds_model.specs.World.{Conn, ConnLine, FrameLine, StaleLine, PassLine, DropLine, Passed}
-use Rattle.ds_model.specs.Connecting.{arrive, fresh_frame, stale_frame, told_delivery, passed_of}
+use Rattle.ds_model.specs.ConnectionStep.{arrive, fresh_frame, stale_frame, delivery_after_reply, passed_of}
 use Rattle.ds_inlet.specs.declared.offer.ConnEntry.{ConnEntry}
 use Rattle.ds_inlet.specs.declared.offer.ConnEntry.TheVariants as entries
 use Rattle.ds_inlet.specs.Hosts.{seen_failure}
@@ -69,12 +69,12 @@ IsPlainStale = (link : List ℕ) (passed : Option Passed) (k : Connection) (o : 
 -- the first message of the hand passes, as whichever message of the host's own
 abbrev pub IsPlainPass : Type 0
 IsPlainPass = (link : List ℕ) (before : Option Passed) (k : Connection) (lane : LaneCert) (first : Message) (rest : List Message) (message : LocalMessage) → k.hand ≡ first ∷ rest
-    → plain_conn link (Some (passed_of lane first)) (passed_on message k) ≡ told_delivery lane first rest None (plain_conn link before k)
+    → plain_conn link (Some (passed_of lane first)) (passed_on message k) ≡ delivery_after_reply lane first rest None (plain_conn link before k)
 
 -- and is dropped
 abbrev pub IsPlainDrop : Type 0
 IsPlainDrop = (link : List ℕ) (passed : Option Passed) (k : Connection) (lane : LaneCert) (first : Message) (rest : List Message) (rule : Rule) → k.hand ≡ first ∷ rest
-    → plain_conn link passed (refused_by rule k) ≡ told_delivery lane first rest (Some rule) (plain_conn link passed k)
+    → plain_conn link passed (refused_by rule k) ≡ delivery_after_reply lane first rest (Some rule) (plain_conn link passed k)
 
 -- the message that passed is handed out, and the connection is as the plain world's after a put
 abbrev pub IsPlainHand : Type 0

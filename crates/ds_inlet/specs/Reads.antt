@@ -8,7 +8,7 @@ use Rattle.ds_frame.specs.Reader.{Answer, next_by}
 use Rattle.ds_model.specs.Scheme.{InletName, Item as Seen, Hello, Framed}
 use Rattle.ds_inlet.specs.Hosts.{host_item, host_reading, seen_or_none}
 use Rattle.ds_inlet.specs.OfferedFrames.{OfferedFrame}
-use Rattle.ds_inlet.specs.Connections.{Connection, Told, told_read}
+use Rattle.ds_inlet.specs.Connections.{Connection, ReadStep, read_step}
 use Rattle.ds_inlet.specs.declared.offer.Offer.{Offer}
 use Rattle.ds_inlet.specs.declared.offer.Offer.TheVariants as offers
 
@@ -38,11 +38,11 @@ end_of (Ok x) = None
 end_of (Err end) = Some end
 
 -- What was read is the stream's next item for the host, or its end, and both are read as far.
-pub record Follows (k : Connection) (told : Told) (answer : Answer) : Type 0 where
+pub record Follows (k : Connection) (told : ReadStep) (answer : Answer) : Type 0 where
   pub reader : told.conn.reader ≡ answer.reader
   pub items : read_by told.answer told.conn ≡ carried_by k.here k.inlets answer.answer
   pub ends : end_of told.answer ≡ end_of answer.answer
 
 -- Where no frame is offered, a call of read follows the stream.
 abbrev pub IsReadAsStream : Type 0
-IsReadAsStream = (k : Connection) → k.offered ≡ None → Follows k (told_read k) (next_by (host_reading k.here k.inlets) k.reader)
+IsReadAsStream = (k : Connection) → k.offered ≡ None → Follows k (read_step k) (next_by (host_reading k.here k.inlets) k.reader)

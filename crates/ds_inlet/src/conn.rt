@@ -5,21 +5,21 @@ ghost use Rattle.std.specs.Prelude.{◌≡◌, ◌<◌, ◌≤◌, ◌+◌, drop
 ghost use Rattle.std.specs.List.{All};
 ghost use Rattle.ds_msg.specs.Ranges.{MessageRange};
 ghost use Rattle.ds_frame.specs.Reader.{fed};
-ghost use Rattle.ds_inlet.specs.Connections.{AreSeenInRange, Fails, IsAdmitted, IsForHost, IsForLane, IsOffered, IsShortMessage, IsShortPassed, Reads, arrived_more, frame_seen, new_connection, passed_on, refused_by, seat, seat_of, settled, told_seen};
+ghost use Rattle.ds_inlet.specs.Connections.{AreSeenInRange, Fails, IsAccepted, IsForHost, IsForLane, IsOffered, IsShortMessage, IsShortPassed, Reads, arrived_more, frame_seen, new_connection, passed_on, refused_by, lane_inlet, lane_inlet_of, settled, seen_step};
 ghost use Rattle.std.specs.Prelude.{ℕ, List};
 ghost use Rattle.ds_model.specs.Scheme.{Scheme};
 ghost use Rattle.ds_model.specs.Plan.{HostPlan};
-ghost use Rattle.ds_model.specs.Connecting.{accept};
+ghost use Rattle.ds_model.specs.ConnectionStep.{accept};
 ghost use Rattle.ds_inlet.specs.PlainConnections.{plain_conn};
 ghost use Rattle.ds_inlet.specs.Accepting.{Accepts, IsReadSoFar, inlet_plan, inlet_scheme};
 ghost use Rattle.ds_inlet.specs.Hosts.{inlet_at};
-ghost use Rattle.ds_inlet.specs.Seen.{seen_of};
+ghost use Rattle.ds_inlet.specs.ItemInside.{seen_of};
 
 use crate::hosts::{Seen, seen_reading};
 use crate::names::InletNames;
-use crate::offer::{ConnEntry, Offer, Offered};
+use crate::offer::{ConnEntry, Offer, Pending};
 use ds_cert::LaneCert;
-use ds_frame::{Cause, Failure, Halt, ReadEnd};
+use ds_frame::{Cause, Failure, ReadFaultOrMemory, ReadEnd};
 use ds_label::{PubKey, Rule};
 use ds_msg::{LocalMessage, Message};
 use ds_script::Actor;
@@ -40,18 +40,18 @@ pub struct Conn {
     at: usize,
     lane: Option<LaneCert>,
     failure: Option<Failure>,
-    offered: Option<Offered>,
+    offered: Option<Pending>,
     hand: VecDeque<Message>,
     passed: Option<(u32, LocalMessage)>,
     entries: Vec<ConnEntry>,
 }
 
 impl Model for Conn {
-    ghost use Rattle.ds_inlet.specs.Connections.{RoomyConnection};
+    ghost use Rattle.ds_inlet.specs.Connections.{ConnectionWithCapacity};
 
-    ghost Value = { RoomyConnection };
+    ghost Value = { ConnectionWithCapacity };
 
-    ghost use Rattle.ds_inlet.specs.Fields.{roomy_of, IsKept};
+    ghost use Rattle.ds_inlet.specs.ConnInside.{roomy_of, IsKept};
 
     ghost view = { roomy_of };
 
@@ -144,7 +144,7 @@ impl Conn {
     /// What every connection keeps: a hello that was read has an inlet, an offered frame is for that inlet, and messages are in
     /// range.
     pub fn is_admitted(&self)
-        ensures { IsAdmitted self.now.conn }
+        ensures { IsAccepted self.now.conn }
     {
         let _at = self.at;
     }
@@ -213,7 +213,7 @@ impl Conn {
         ensures exact { Reads self.old.conn result self.new.conn }
         ensures accepts { (s : Scheme) (plan : HostPlan) (link : List ℕ) → Accepts link self.old.conn.reader.failure result self.new.conn (accept (inlet_scheme s) (inlet_plan plan self.old.conn) (plain_conn link None self.old.conn) self.old.conn.arrived) }
         ensures offered { IfOk result (λ offer. IsOffered offer self.new.conn.offered) }
-        ensures inlet { IfOk result (λ offer. IsForLane offer (seat_of self.new.conn.inlets self.new.conn.reader.lane)) }
+        ensures inlet { IfOk result (λ offer. IsForLane offer (lane_inlet_of self.new.conn.inlets self.new.conn.reader.lane)) }
         ensures room { (self.new.spare ≡ self.old.spare) × (self.new.space ≡ self.old.space) }
     {
         self.is_read_so_far();
@@ -227,7 +227,7 @@ impl Conn {
         requires free { self.old.conn.passed ≡ None }
         ensures exact { Reads self.old.conn result self.new.conn }
         ensures offered { IfOk result (λ offer. IsOffered offer self.new.conn.offered) }
-        ensures inlet { IfOk result (λ offer. IsForLane offer (seat_of self.new.conn.inlets self.new.conn.reader.lane)) }
+        ensures inlet { IfOk result (λ offer. IsForLane offer (lane_inlet_of self.new.conn.inlets self.new.conn.reader.lane)) }
         ensures room { (self.new.spare ≡ self.old.spare) × (self.new.space ≡ self.old.space) }
     {
         if let Some(offered) = &self.offered {
@@ -248,9 +248,9 @@ impl Conn {
             &self.bytes[self.at..],
         ) {
             Ok((seen, size)) => Ok(self.take_seen(seen, size)),
-            Err(Halt::Open) => Err(ReadEnd::NotYet),
-            Err(Halt::NoMemory) => Err(ReadEnd::NoMemory),
-            Err(Halt::Broken(cause, offset)) => Err(self.fail(cause, offset)),
+            Err(ReadFaultOrMemory::Open) => Err(ReadEnd::NotYet),
+            Err(ReadFaultOrMemory::NoMemory) => Err(ReadEnd::NoMemory),
+            Err(ReadFaultOrMemory::Broken(cause, offset)) => Err(self.fail(cause, offset)),
         }
     }
 
@@ -260,10 +260,10 @@ impl Conn {
         requires free { self.old.conn.offered ≡ None }
         requires host { IsForHost self.old.conn.inlets self.old.conn.reader.lane (seen_of seen) }
         requires range { AreSeenInRange (seen_of seen) }
-        requires so_far { IsReadSoFar (told_seen self.old.conn (seen_of seen) (drop size self.old.conn.reader.rest)).conn }
-        ensures told { told_seen self.old.conn (seen_of seen) (drop size self.old.conn.reader.rest) ≡ record { answer = Ok result; conn = self.new.conn } }
+        requires so_far { IsReadSoFar (seen_step self.old.conn (seen_of seen) (drop size self.old.conn.reader.rest)).conn }
+        ensures told { seen_step self.old.conn (seen_of seen) (drop size self.old.conn.reader.rest) ≡ record { answer = Ok result; conn = self.new.conn } }
         ensures offered { IsOffered result self.new.conn.offered }
-        ensures inlet { IsForLane result (seat_of self.new.conn.inlets self.new.conn.reader.lane) }
+        ensures inlet { IsForLane result (lane_inlet_of self.new.conn.inlets self.new.conn.reader.lane) }
         ensures room { (self.new.spare ≡ self.old.spare) × (self.new.space ≡ self.old.space) }
     {
         match seen {
@@ -288,10 +288,10 @@ impl Conn {
     }
 
     /// The place of the inlet of the lane whose certificate was read.
-    fn seat(&self) -> u32
+    fn lane_inlet(&self) -> u32
         requires { is_some self.now.conn.reader.lane ≡ true }
-        ensures inlet { seat_of self.now.conn.inlets self.now.conn.reader.lane ≡ Some result }
-        ensures place { result ≡ seat self.now.conn.inlets self.now.conn.reader.lane }
+        ensures inlet { lane_inlet_of self.now.conn.inlets self.now.conn.reader.lane ≡ Some result }
+        ensures place { result ≡ lane_inlet self.now.conn.inlets self.now.conn.reader.lane }
     {
         let Some(lane) = &self.lane else {
             unreachable!();
@@ -309,12 +309,12 @@ impl Conn {
         requires range { All MessageRange messages.items }
         requires so_far { IsReadSoFar (record self.old.conn { reader = record self.old.conn.reader { rest = drop size self.old.conn.reader.rest; passed = self.old.conn.reader.passed + size }; offered = Some (frame_seen self.old.conn number messages.items) }) }
         ensures state { self.new.conn ≡ record self.old.conn { reader = record self.old.conn.reader { rest = drop size self.old.conn.reader.rest; passed = self.old.conn.reader.passed + size }; offered = Some (frame_seen self.old.conn number messages.items) } }
-        ensures offer { result ≡ Offer.Frame (seat self.old.conn.inlets self.old.conn.reader.lane) number }
-        ensures inlet { seat_of self.old.conn.inlets self.old.conn.reader.lane ≡ Some (seat self.old.conn.inlets self.old.conn.reader.lane) }
+        ensures offer { result ≡ Offer.Frame (lane_inlet self.old.conn.inlets self.old.conn.reader.lane) number }
+        ensures inlet { lane_inlet_of self.old.conn.inlets self.old.conn.reader.lane ≡ Some (lane_inlet self.old.conn.inlets self.old.conn.reader.lane) }
         ensures room { (self.new.spare ≡ self.old.spare) × (self.new.space ≡ self.old.space) }
     {
-        let inlet = self.seat();
-        self.offered = Some(Offered {
+        let inlet = self.lane_inlet();
+        self.offered = Some(Pending {
             inlet,
             number,
             messages,

@@ -8,11 +8,11 @@ ghost use Rattle.ds_frame.specs.Fields.{Finds, IsAmong};
 ghost use Rattle.ds_model.specs.Keys.{same_key};
 ghost use Rattle.ds_inlet.specs.Hosts.{admitted, message_or, messages_from, host_item, seen_reading};
 ghost use Rattle.ds_inlet.specs.Connections.{AreSeenInRange, IsForHost};
-ghost use Rattle.ds_inlet.specs.Seen.{seen_of};
+ghost use Rattle.ds_inlet.specs.ItemInside.{seen_of};
 
 use crate::names::InletNames;
 use ds_cert::{CertFault, LaneCert};
-use ds_frame::{Cause, Halt, Item, item_of};
+use ds_frame::{Cause, ReadFaultOrMemory, Item, item_of};
 use ds_label::PubKey;
 use ds_msg::Message;
 use ds_wire::Bytes;
@@ -36,27 +36,27 @@ fn is_same_key(a: &PubKey, b: &PubKey) -> bool
 }
 
 /// The lane certificate, where it leads to this host, which has an inlet for it.
-fn admitted(here: &PubKey, inlets: &InletNames, lane: LaneCert) -> Result<LaneCert, Halt>
+fn admitted(here: &PubKey, inlets: &InletNames, lane: LaneCert) -> Result<LaneCert, ReadFaultOrMemory>
     ensures { Finds (λ x. x) result (admitted here.now inlets.now lane) }
 {
     if !is_same_key(&lane.receiver, here) {
-        return Err(Halt::Broken(Cause::HelloReceiver, 6));
+        return Err(ReadFaultOrMemory::Broken(Cause::HelloReceiver, 6));
     }
     if inlets.find(&lane).is_none() {
-        return Err(Halt::Broken(Cause::NoInlet, 6));
+        return Err(ReadFaultOrMemory::Broken(Cause::NoInlet, 6));
     }
     Ok(lane)
 }
 
 /// The message that these bytes spell, which stand at that place.
-fn message_at(alloc: Global, place: usize, bytes: &[u8]) -> Result<Message, Halt>
+fn message_at(alloc: Global, place: usize, bytes: &[u8]) -> Result<Message, ReadFaultOrMemory>
     ensures gives { Finds (λ x. x) result (message_or place (read_message bytes.now)) }
     ensures range { IfOk result MessageRange }
 {
     match Message::decode(alloc, bytes) {
         Ok(message) => Ok(message),
-        Err(CertFault::Malformed(_)) => Err(Halt::Broken(Cause::Body, place)),
-        Err(CertFault::NoMemory) => Err(Halt::NoMemory),
+        Err(CertFault::Malformed(_)) => Err(ReadFaultOrMemory::Broken(Cause::Body, place)),
+        Err(CertFault::NoMemory) => Err(ReadFaultOrMemory::NoMemory),
     }
 }
 
@@ -77,7 +77,7 @@ fn append(messages: &mut VecDeque<Message>, message: Message) -> Result<(), Allo
 
 /// The messages that these bytes spell. The first one's count stands at that place.
 #[tactic(auto, using(crate::proofs::Messages::one_more))]
-fn messages_of(alloc: Global, start: usize, bodies: &[Bytes]) -> Result<VecDeque<Message>, Halt>
+fn messages_of(alloc: Global, start: usize, bodies: &[Bytes]) -> Result<VecDeque<Message>, ReadFaultOrMemory>
     ensures gives { Finds (λ x. x.items) result (messages_from start bodies.now) }
     ensures range { IfOk result (λ x. All MessageRange x.items) }
 {
@@ -85,7 +85,7 @@ fn messages_of(alloc: Global, start: usize, bodies: &[Bytes]) -> Result<VecDeque
     let mut place = start;
     for bytes in bodies {
         let Some(next) = place_behind(place, bytes.len()) else {
-            return Err(Halt::NoMemory);
+            return Err(ReadFaultOrMemory::NoMemory);
         };
         let message = message_at(alloc, place + 4, bytes.as_slice())?;
         append(&mut messages, message)?;
@@ -96,7 +96,7 @@ fn messages_of(alloc: Global, start: usize, bodies: &[Bytes]) -> Result<VecDeque
 
 /// What the host sees of an item.
 #[tactic(auto, unfolding(crate::specs::Hosts::host_item))]
-fn host_item(alloc: Global, here: &PubKey, inlets: &InletNames, item: Item) -> Result<Seen, Halt>
+fn host_item(alloc: Global, here: &PubKey, inlets: &InletNames, item: Item) -> Result<Seen, ReadFaultOrMemory>
     ensures gives { Finds seen_of result (host_item here.now inlets.now item) }
     ensures range { IfOk result (λ seen. AreSeenInRange (seen_of seen)) }
 {
@@ -120,7 +120,7 @@ pub(crate) fn seen_reading(
     inlets: &InletNames,
     lane: &Option<LaneCert>,
     bytes: &[u8],
-) -> Result<(Seen, usize), Halt>
+) -> Result<(Seen, usize), ReadFaultOrMemory>
     ensures gives { Finds (λ x. (seen_of x.0, drop x.1 bytes.now)) result (seen_reading here.now inlets.now lane.now bytes.now) }
     ensures size { IfOk result (λ x. x.1 ≤ length bytes.now) }
     ensures range { IfOk result (λ x. AreSeenInRange (seen_of x.0)) }

@@ -51,7 +51,7 @@ pub enum ConnEntry {
 
 /// A frame that was read and isn't settled yet.
 #[derive(Debug, Drop)]
-pub(crate) struct Offered {
+pub(crate) struct Pending {
     /// The place of its inlet among the host's.
     pub inlet: u32,
     /// Its number.
@@ -60,7 +60,7 @@ pub(crate) struct Offered {
     pub messages: VecDeque<Message>,
 }
 
-impl Model for Offered {
+impl Model for Pending {
     ghost use Rattle.ds_inlet.specs.OfferedFrames.{OfferedFrame};
 
     ghost Value = { OfferedFrame };

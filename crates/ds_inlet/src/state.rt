@@ -37,11 +37,11 @@ pub struct Inlet {
 }
 
 impl Model for Inlet {
-    ghost use Rattle.ds_inlet.specs.Inlets.{RoomyInlet};
+    ghost use Rattle.ds_inlet.specs.Inlets.{InletWithCapacity};
 
-    ghost Value = { RoomyInlet };
+    ghost Value = { InletWithCapacity };
 
-    ghost use Rattle.ds_inlet.specs.Sound.{seen_of, IsSound};
+    ghost use Rattle.ds_inlet.specs.InletInside.{seen_of, IsSound};
 
     ghost view = { seen_of };
 

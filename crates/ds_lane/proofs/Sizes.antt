@@ -13,7 +13,7 @@ use Rattle.ds_frame.specs.Ranges.{BodiesRange}
 use Rattle.ds_frame.proofs.BodyLaws.{small_bodies}
 use Rattle.ds_lane.specs.declared.batch.Waiting.{Waiting}
 use Rattle.ds_lane.specs.Lanes.{WaitsOn}
-use Rattle.ds_lane.specs.Ends.{HasSpelling}
+use Rattle.ds_lane.specs.Workers.{HasSpelling}
 
 -- at most 72,229 bytes
 abbrev pub IsSmall : List ℕ → Type 0

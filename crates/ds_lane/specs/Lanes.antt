@@ -21,7 +21,7 @@ pub record Lane : Type 0 where
   pub waiting : List Waiting
 
 -- a lane, and for how many calls there is memory
-pub record RoomyLane : Type 0 where
+pub record LaneWithCapacity : Type 0 where
   pub lane : Lane
   pub spare : ℕ
 

@@ -1,4 +1,4 @@
 pub mod Lanes
-pub mod Sound
-pub mod Ends
-pub mod Held
+pub mod LaneInside
+pub mod Workers
+pub mod WorkerInside

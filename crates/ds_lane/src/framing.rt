@@ -10,7 +10,7 @@ ghost use Rattle.ds_cert.specs.Spelling.{spelling_of_signature};
 ghost use Rattle.ds_msg.specs.Ranges.{MessageRange};
 ghost use Rattle.ds_frame.specs.Ranges.{BodiesRange};
 ghost use Rattle.ds_frame.specs.Spelling.{part_of_frame};
-ghost use Rattle.ds_lane.specs.Ends.{HasSpelling, spelled, bodies_of};
+ghost use Rattle.ds_lane.specs.Workers.{HasSpelling, spelled, bodies_of};
 
 use crate::batch::Waiting;
 use ds_base::Keeper;

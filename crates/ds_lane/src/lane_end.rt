@@ -8,11 +8,11 @@ ghost use Rattle.lms_state.specs.Once.{Traced};
 ghost use Rattle.lms_state.specs.Signers.{leaves_of};
 ghost use Rattle.ds_cert.specs.Ranges.{LaneCertRange};
 ghost use Rattle.ds_lane.specs.Lanes.{WaitsOn};
-ghost use Rattle.ds_lane.specs.Ends.{IsHolding, IsReady, fresh_worker, holding, framed, dropped, dropped_entry};
+ghost use Rattle.ds_lane.specs.Workers.{IsHolding, IsReady, fresh_worker, holding, framed, dropped, dropped_entry};
 
 use crate::batch::{BodyBatch, Waiting};
 use crate::framing::{append_frame, part_with_room, sign_short};
-use crate::lines::{EndAct, EndEntry};
+use crate::worker_entry::{WorkerAct, WorkerEntry};
 use ds_base::Keeper;
 use ds_cert::LaneCert;
 use ds_frame::hello_bytes;
@@ -59,15 +59,15 @@ pub struct LaneEnd {
     signer: Signer,
     hand: BodyBatch,
     stream: Buffer,
-    entries: Vec<EndEntry>,
+    entries: Vec<WorkerEntry>,
 }
 
 impl Model for LaneEnd {
-    ghost use Rattle.ds_lane.specs.Ends.{RoomyWorker};
+    ghost use Rattle.ds_lane.specs.Workers.{WorkerWithCapacity};
 
-    ghost Value = { RoomyWorker };
+    ghost Value = { WorkerWithCapacity };
 
-    ghost use Rattle.ds_lane.specs.Held.{roomy_of, IsHeld};
+    ghost use Rattle.ds_lane.specs.WorkerInside.{roomy_of, IsHeld};
 
     ghost view = { roomy_of };
 
@@ -75,17 +75,17 @@ impl Model for LaneEnd {
 }
 
 /// An entry for each message that a rule drops, in order. It takes no memory.
-fn enter_dropped(entries: &mut Vec<EndEntry>, stamp: u64, rule: Rule, hand: &[Waiting])
+fn enter_dropped(entries: &mut Vec<WorkerEntry>, stamp: u64, rule: Rule, hand: &[Waiting])
     requires { vec_len entries.old + length hand.now ≤ vec_capacity entries.old }
     ensures { entries.new.items ≡ entries.old.items ++ map (dropped_entry stamp rule) hand.now }
 {
     for waiting in hand {
-        let act = EndAct::Dropped {
+        let act = WorkerAct::Dropped {
             rule,
             from: waiting.from,
             slot: waiting.message.slot,
         };
-        entries.push_reserved(EndEntry { stamp, act });
+        entries.push_reserved(WorkerEntry { stamp, act });
     }
 }
 
@@ -156,7 +156,7 @@ impl LaneEnd {
     }
 
     /// What is printed of it, in order.
-    pub fn entries(&self) -> &[EndEntry]
+    pub fn entries(&self) -> &[WorkerEntry]
         ensures { result.now ≡ self.now.worker.entries }
     {
         self.entries.as_slice()
@@ -228,8 +228,8 @@ impl LaneEnd {
         };
         append_frame(&mut self.stream, part.as_slice(), signature.as_slice());
         self.hand = BodyBatch::new(self.alloc);
-        let act = EndAct::Framed { number, count };
-        self.entries.push_reserved(EndEntry { stamp, act });
+        let act = WorkerAct::Framed { number, count };
+        self.entries.push_reserved(WorkerEntry { stamp, act });
         Ok(())
     }
 

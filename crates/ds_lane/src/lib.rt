@@ -7,7 +7,7 @@ mod copying;
 mod entry;
 mod framing;
 mod lane_end;
-mod lines;
+mod worker_entry;
 mod state;
 #[cfg(test)]
 mod tests;
@@ -15,5 +15,5 @@ mod tests;
 pub use batch::{BodyBatch, Waiting};
 pub use entry::{LaneAct, LaneEntry, LaneSegment};
 pub use lane_end::{LaneEnd, LaneFault};
-pub use lines::{EndAct, EndEntry};
+pub use worker_entry::{WorkerAct, WorkerEntry};
 pub use state::{LaneState, LiftEnd};

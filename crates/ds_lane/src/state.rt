@@ -47,11 +47,11 @@ pub struct LaneState {
 }
 
 impl Model for LaneState {
-    ghost use Rattle.ds_lane.specs.Lanes.{RoomyLane};
+    ghost use Rattle.ds_lane.specs.Lanes.{LaneWithCapacity};
 
-    ghost Value = { RoomyLane };
+    ghost Value = { LaneWithCapacity };
 
-    ghost use Rattle.ds_lane.specs.Sound.{seen_of, IsSound};
+    ghost use Rattle.ds_lane.specs.LaneInside.{seen_of, IsSound};
 
     ghost view = { seen_of };
 

@@ -5,7 +5,7 @@ ghost use Rattle.std.specs.Prelude.{◌≡◌, IfOk};
 ghost use Rattle.ds_cert.specs.Ranges.{LaneCertRange};
 ghost use Rattle.ds_lane.specs.Lanes.{IsOn};
 
-use crate::{EndAct, EndEntry, LaneAct, LaneEnd, LaneEntry, LaneFault, LaneState, LiftEnd};
+use crate::{WorkerAct, WorkerEntry, LaneAct, LaneEnd, LaneEntry, LaneFault, LaneState, LiftEnd};
 use ds_base::{CalmKeeper, Keeper, MemKeeper};
 use ds_cert::LaneCert;
 use ds_label::{Label, PubKey, Rule};
@@ -185,10 +185,10 @@ fn frame<K: Keeper>(end: &mut LaneEnd, stamp: u64, keeper: &mut K) -> Result<(),
 }
 
 /// An entry as its stamp, its number or its sender, and its count or its mailbox.
-fn told(entry: &EndEntry) -> (u64, u32, u32) {
+fn told(entry: &WorkerEntry) -> (u64, u32, u32) {
     match entry.act {
-        EndAct::Framed { number, count } => (entry.stamp, number, count),
-        EndAct::Dropped { from, slot, .. } => (entry.stamp, from, slot),
+        WorkerAct::Framed { number, count } => (entry.stamp, number, count),
+        WorkerAct::Dropped { from, slot, .. } => (entry.stamp, from, slot),
     }
 }
 

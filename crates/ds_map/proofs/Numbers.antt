@@ -13,7 +13,7 @@ use Rattle.ds_label.proofs.Members.{same-is}
 use Rattle.ds_model.specs.Mapping.{is_known, number_of, to_number, to_name, kind_of, if_kind}
 use Rattle.ds_map.specs.Table.{IsTable}
 use Rattle.ds_map.specs.Labels.{has_name, name_of, no_category, named, have_names}
-use Rattle.ds_map.specs.Alike.{UnderEachTable, IsOneToOne, LabelsAreOneToOne, SameAnswers, SameRules}
+use Rattle.ds_map.specs.Translation.{UnderEachTable, IsOneToOne, LabelsAreOneToOne, SameAnswers, SameRules}
 use Rattle.ds_map.proofs.Sets.{same_bool, and_first, and_second}
 use Rattle.ds_map.proofs.Bridge.{image-back, IsRising-image, length-image, image-with_member, image-union, image-minus, has-image_of, same_label-image, within-image, within_either-image, flows-image, may_send-image, may_take-image, may_relabel-image, may_publish-image, may_make-image, can_grant-image, mailbox_rule-image}
 use Rattle.ds_map.proofs.Tables.{to_name-number_of, to_number-to_name, numbered_known, same_kind-is}

@@ -50,16 +50,16 @@ foreign_row here rows c table h = not_true (same_key c.creator here) (all_has by
 
 -- a stray category isn't known
 pub stray_unknown : (here : PubKey) (rows : List Category) (c : Category) → IsTable here rows → is_stray here c ≡ true → is_known here rows c ≡ false
-stray_unknown here rows c table stray = cases (has by_name c rows) refl
+stray_unknown here rows c table unmappable_home = cases (has by_name c rows) refl
   where
     own : same_key c.creator here ≡ true
-    own = and_first (same_key c.creator here) (nat_le (2 ^ 62) c.number) stray
+    own = and_first (same_key c.creator here) (nat_le (2 ^ 62) c.number) unmappable_home
 
     above : (n m : ℕ) → nat_le m n ≡ true → nat_lt n m ≡ false
     above n m e = grind (arith, nat_tests)
 
     unlike : nat_lt c.number (2 ^ 62) ≡ false
-    unlike = above c.number (2 ^ 62) (and_second (same_key c.creator here) (nat_le (2 ^ 62) c.number) stray)
+    unlike = above c.number (2 ^ 62) (and_second (same_key c.creator here) (nat_le (2 ^ 62) c.number) unmappable_home)
 
     and_false : (a b : Bool) → b ≡ false → (a && b) ≡ false
     and_false true b e = e
@@ -141,7 +141,7 @@ true_false b p q = cc
 
 -- what has a number isn't stray
 pub numbered_home : (here : PubKey) (rows : List Category) (c : Category) (n : ℕ) (found : Option ℕ) → IsTable here rows → found ≡ to_number here rows c → found ≡ Some n → is_stray here c ≡ true → ⊥
-numbered_home here rows c n found table at some stray = true_false (is_known here rows c) (numbered_known here rows c n found at some) (stray_unknown here rows c table stray)
+numbered_home here rows c n found table at some unmappable_home = true_false (is_known here rows c) (numbered_known here rows c n found at some) (stray_unknown here rows c table unmappable_home)
 
 -- ---- numbers and kinds
 

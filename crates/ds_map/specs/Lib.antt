@@ -1,4 +1,4 @@
 pub mod Table
 pub mod Labels
-pub mod Alike
+pub mod Translation
 pub mod Growing

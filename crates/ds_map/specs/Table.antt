@@ -30,5 +30,5 @@ abbrev pub is_stray : PubKey → Category → Bool
 is_stray here c = same_key c.creator here && nat_le (2 ^ 62) c.number
 
 -- a foreign category without a row, and no row is left for it
-abbrev pub finds_full : PubKey → List Category → Category → Bool
-finds_full here rows c = not (same_key c.creator here) && (not (has by_name c rows) && nat_le row_limit (length rows))
+abbrev pub overflows_table : PubKey → List Category → Category → Bool
+overflows_table here rows c = not (same_key c.creator here) && (not (has by_name c rows) && nat_le row_limit (length rows))

@@ -1,7 +1,7 @@
 //! Numbers and names are one thing in two spellings.
 
 ghost use Rattle.ds_map.specs.Growing.{GrowsSo};
-ghost use Rattle.ds_map.specs.Alike.{UnderEachTable, IsOneToOne, LabelsAreOneToOne, SameAnswers, SameRules};
+ghost use Rattle.ds_map.specs.Translation.{UnderEachTable, IsOneToOne, LabelsAreOneToOne, SameAnswers, SameRules};
 
 /// Under each table a known category and its number say each other, and the number's parity says the kind.
 pub fn numbers_are_one_to_one()

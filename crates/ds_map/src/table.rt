@@ -3,7 +3,7 @@
 ghost use Rattle.std.specs.Prelude.{◌≡◌, ◌≢◌, ◌↔◌, ◌<◌, ◌≤◌, [], length, IsTrue, IfSome, IfOk, IsOk, OnOk, OnErr, IsErrOf, Err, option_copied, slice_get, position};
 ghost use Rattle.ds_label.specs.Names.{same_category};
 ghost use Rattle.ds_model.specs.Mapping.{is_known, with_row, number_of, to_number, to_name as name_with_number};
-ghost use Rattle.ds_map.specs.Table.{IsTable, is_stray, finds_full};
+ghost use Rattle.ds_map.specs.Table.{IsTable, is_stray, overflows_table};
 
 use crate::fault::MapFault;
 use crate::number::{FIRST_FOREIGN, ROW_LIMIT, foreign_number, home_number, is_home, kind_of};
@@ -141,7 +141,7 @@ impl MapTable {
         ensures rows { OnOk result (self.new.rows ≡ with_row self.old.here name self.old.rows) }
         ensures known { IsTrue (is_known self.old.here self.old.rows name) → IsOk result }
         ensures not_home { IsErrOf result MapFault.NotHome ↔ IsTrue (is_stray self.old.here name) }
-        ensures table_full { IsErrOf result MapFault.TableFull ↔ IsTrue (finds_full self.old.here self.old.rows name) }
+        ensures table_full { IsErrOf result MapFault.TableFull ↔ IsTrue (overflows_table self.old.here self.old.rows name) }
         ensures reserved { 0 < self.old.spare → result ≢ Err MapFault.NoMemory }
         ensures err { OnErr result (self.new.rows ≡ self.old.rows) }
         ensures here { self.new.here ≡ self.old.here }

@@ -16,7 +16,7 @@ use Rattle.ds_model.specs.Mailbox.{PutIn, FoundFull, put_entry, box_needs}
 use Rattle.ds_model.specs.Lane.{Queued, QueueFull, Lifted, admit_entry, lane_needs, frame_limit}
 use Rattle.ds_model.specs.Inlet.{Inlet, Fresh, Stale, is_fresh, number_entry, inlet_needs}
 use Rattle.ds_model.specs.Desk.{Desk, Delegated, Imported, Mapped, Act, Delegating, Importing, Mapping, act_entry, import_entry, import_rule, entry_unless, is_good, is_none, desk_needs, denied_needs, store_limit, address_limit}
-use Rattle.ds_cert.specs.Kept.{is_kept, is_kept_address}
+use Rattle.ds_cert.specs.NoDoubles.{is_kept, is_kept_address}
 
 -- what isn't below is at least
 pub not_below : (n m : ℕ) → nat_lt n m ≡ false → nat_le m n ≡ true

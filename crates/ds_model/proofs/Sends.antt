@@ -14,7 +14,7 @@ use Rattle.ds_model.specs.ExporterRules.{known_rule}
 use Rattle.ds_model.specs.Plan.{HostPlan, host_plan}
 use Rattle.ds_model.specs.Desk.{Act}
 use Rattle.ds_model.specs.World.{Process, Mail}
-use Rattle.ds_model.specs.Asking.{Ask, Stay, Alone, Put, Admit, TakeFrom, Do, Judge, box_of, label_of, Target, Not, Into, target, judge_box, send_rule, mail_of, send_here, send_away, message_of, take_from, take_rule, relabel, make, publish, ask_outer, ask_inner, queue_at, lane_of, ask_hand, ask}
+use Rattle.ds_model.specs.ProcessStep.{Ask, Waits, Internal, Put, Admit, TakeFrom, PublicAct, AsksJudgement, box_of, label_of, Target, Not, Into, target, judge_box, send_rule, mail_of, send_here, send_away, message_of, take_from, take_rule, relabel, make, publish, ask_outer, ask_inner, queue_at, lane_of, ask_hand, ask}
 use Rattle.ds_model.specs.Lawful.{SentLawfully}
 use Rattle.ds_model.proofs.Places.{cond_case}
 
@@ -38,13 +38,13 @@ record Sent (plan : HostPlan) (x : Process) (b : ℕ) (mail : Mail Category) : T
   pub mailbox : mailbox_rule by_name (label_of plan (Some b)) label ≡ None
 
 abbrev PutFacts : HostPlan → Process → Ask → Type 0
-PutFacts plan x Stay = Unit {0}
-PutFacts plan x (Alone next) = Unit {0}
+PutFacts plan x Waits = Unit {0}
+PutFacts plan x (Internal next) = Unit {0}
 PutFacts plan x (Put b mail next) = Sent plan x b mail
 PutFacts plan x (Admit l m next) = Unit {0}
 PutFacts plan x (TakeFrom b reg slot) = Unit {0}
-PutFacts plan x (Do act reg host) = Unit {0}
-PutFacts plan x (Judge m) = Unit {0}
+PutFacts plan x (PublicAct act reg host) = Unit {0}
+PutFacts plan x (AsksJudgement m) = Unit {0}
 
 abbrev TargetFacts : HostPlan → Option ℕ → List Category → Target → Type 0
 TargetFacts plan o label (Not r) = Unit {0}

@@ -9,7 +9,7 @@ use Rattle.ds_cert.specs.declared.delegation.Delegation.{Delegation}
 use Rattle.ds_cert.specs.declared.address.Address.{Address}
 use Rattle.ds_cert.specs.declared.cert.Cert.{Cert}
 use Rattle.ds_cert.specs.declared.cert.Cert.TheVariants as certs
-use Rattle.ds_cert.specs.Kept.{is_kept, is_kept_address, with_delegation, with_address}
+use Rattle.ds_cert.specs.NoDoubles.{is_kept, is_kept_address, with_delegation, with_address}
 use Rattle.ds_model.specs.Stepping.{stepping}
 use Rattle.ds_model.specs.FirstRule.{unless, first_rule}
 use Rattle.ds_model.specs.Mapping.{is_known, with_row, number_of, row_limit}

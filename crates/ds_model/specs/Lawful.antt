@@ -11,12 +11,12 @@ use Rattle.ds_msg.specs.declared.message.Message.{Message}
 use Rattle.ds_model.specs.ProcessRules.{may_send, mailbox_rule}
 use Rattle.ds_model.specs.ExporterRules.{known_rule, sender_rule, receiver_rule}
 use Rattle.ds_model.specs.Scheme.{Scheme, Framed}
-use Rattle.ds_model.specs.Plan.{Plan, Link, OfLane, IsLane, host_plan, wire, box_plan, lane_plan}
+use Rattle.ds_model.specs.Plan.{Plan, Link, OfLane, IsLane, host_plan, conn_plan, box_plan, lane_plan}
 use Rattle.ds_model.specs.Mailbox.{PutIn, put_entry}
 use Rattle.ds_model.specs.Inlet.{Inlet}
 use Rattle.ds_model.specs.World.{Process, Mail, Mailbox, Queue, Waiting, Worker, Passed, Conn, Host, World}
-use Rattle.ds_model.specs.Asking.{Put, ask, message_of, mail_of, box_of, label_of, lane_of}
-use Rattle.ds_model.specs.Connecting.{Hand, peer, inlet_of, passed_of, deliver}
+use Rattle.ds_model.specs.ProcessStep.{Put, ask, message_of, mail_of, box_of, label_of, lane_of}
+use Rattle.ds_model.specs.ConnectionStep.{PutsPassed, peer, inlet_of, passed_of, deliver}
 use Rattle.ds_model.specs.Step.{Event, Step, Frame, Accept, Deliver, attached, arrived, resolve, step, run}
 
 -- some event of a list, with those before it
@@ -79,13 +79,13 @@ module _ (s : Scheme) (plan : Plan) (start : World) where
     pub box : Mailbox
     pub next : Conn
     pub event : Is before e (Deliver k)
-    pub stands : slice_get (after before).hosts (wire plan k).host ≡ Some host
+    pub stands : slice_get (after before).hosts (conn_plan plan k).host ≡ Some host
     pub here : slice_get (after before).conns k ≡ Some conn
-    pub hello : peer s (host_plan plan (wire plan k).host) (arrived (after before) (wire plan k).source conn) ≡ Some lane
+    pub hello : peer s (host_plan plan (conn_plan plan k).host) (arrived (after before) (conn_plan plan k).source conn) ≡ Some lane
     pub passed : conn.passed ≡ Some p
     pub there : slice_get host.boxes b ≡ Some box
-    pub asks : deliver s (host_plan plan (wire plan k).host) conn (arrived (after before) (wire plan k).source conn) ≡ Hand b p.mail next
-    pub room : put_entry (box_plan (host_plan plan (wire plan k).host) b).room p.mail box.waiting ≡ PutIn p.mail
+    pub asks : deliver s (host_plan plan (conn_plan plan k).host) conn (arrived (after before) (conn_plan plan k).source conn) ≡ PutsPassed b p.mail next
+    pub room : put_entry (box_plan (host_plan plan (conn_plan plan k).host) b).room p.mail box.waiting ≡ PutIn p.mail
 
   -- the event judges it, the first of the connection's hand, by the rules of arrival and of the mailbox, at the host's own
   -- desk; none fails, and it is passed
@@ -95,12 +95,12 @@ module _ (s : Scheme) (plan : Plan) (start : World) where
     pub others : List Message
     pub told : Conn
     pub event : Is before e (Deliver k)
-    pub stands : slice_get (after before).hosts (wire plan k).host ≡ Some host
+    pub stands : slice_get (after before).hosts (conn_plan plan k).host ≡ Some host
     pub here : slice_get (after before).conns k ≡ Some conn
-    pub hello : peer s (host_plan plan (wire plan k).host) (arrived (after before) (wire plan k).source conn) ≡ Some lane
+    pub hello : peer s (host_plan plan (conn_plan plan k).host) (arrived (after before) (conn_plan plan k).source conn) ≡ Some lane
     pub hand : conn.hand ≡ m ∷ others
-    pub arrival : receiver_rule s host.desk.store host.desk.rows host.desk.moment (host_plan plan (wire plan k).host).key lane m ≡ None
-    pub mailbox : mailbox_rule by_name (label_of (host_plan plan (wire plan k).host) (box_of (host_plan plan (wire plan k).host) m.slot)) m.label ≡ None
+    pub arrival : receiver_rule s host.desk.store host.desk.rows host.desk.moment (host_plan plan (conn_plan plan k).host).key lane m ≡ None
+    pub mailbox : mailbox_rule by_name (label_of (host_plan plan (conn_plan plan k).host) (box_of (host_plan plan (conn_plan plan k).host) m.slot)) m.label ≡ None
     pub becomes : slice_get (next before e).conns k ≡ Some told
     pub left : told.hand ≡ others
     pub passed : told.passed ≡ Some (passed_of lane m)
@@ -114,12 +114,12 @@ module _ (s : Scheme) (plan : Plan) (start : World) where
     pub last : Inlet
     pub told : Conn
     pub event : Is before e (Accept k)
-    pub stands : slice_get (after before).hosts (wire plan k).host ≡ Some host
+    pub stands : slice_get (after before).hosts (conn_plan plan k).host ≡ Some host
     pub here : slice_get (after before).conns k ≡ Some conn
-    pub hello : peer s (host_plan plan (wire plan k).host) (arrived (after before) (wire plan k).source conn) ≡ Some lane
-    pub item : slice_get (s.items (host_plan plan (wire plan k).host).key (host_plan plan (wire plan k).host).inlets (arrived (after before) (wire plan k).source conn)) conn.taken ≡ Some (Framed number messages)
-    pub signed : s.frame_signed lane.key number messages (arrived (after before) (wire plan k).source conn) ≡ true
-    pub inlet : inlet_of (host_plan plan (wire plan k).host) lane ≡ Some place
+    pub hello : peer s (host_plan plan (conn_plan plan k).host) (arrived (after before) (conn_plan plan k).source conn) ≡ Some lane
+    pub item : slice_get (s.items (host_plan plan (conn_plan plan k).host).key (host_plan plan (conn_plan plan k).host).inlets (arrived (after before) (conn_plan plan k).source conn)) conn.taken ≡ Some (Framed number messages)
+    pub signed : s.frame_signed lane.key number messages (arrived (after before) (conn_plan plan k).source conn) ≡ true
+    pub inlet : inlet_of (host_plan plan (conn_plan plan k).host) lane ≡ Some place
     pub counts : slice_get host.inlets place ≡ Some last
     pub fresh : (old : ℕ) → last ≡ Some old → old < number
     pub becomes : slice_get (next before e).conns k ≡ Some told
@@ -189,7 +189,7 @@ module _ (s : Scheme) (plan : Plan) (start : World) where
 
   -- where the connection is a lane's own, it read that lane's certificate, and the message was sent so
   abbrev pub OwnFrom : (conn : ℕ) → LaneCert → (number : ℕ) → List Message → Message → List Event → Type 0
-  OwnFrom k lane number messages m events = (h l : ℕ) → (wire plan k).source ≡ OfLane h l → (lane ≡ (lane_plan (host_plan plan h) l).cert) × SentBy h l number messages m events
+  OwnFrom k lane number messages m events = (h l : ℕ) → (conn_plan plan k).source ≡ OfLane h l → (lane ≡ (lane_plan (host_plan plan h) l).cert) × SentBy h l number messages m events
 
   -- the frame is one that the lane wrote
   abbrev pub WroteFrame : (host lane number : ℕ) → List Message → List Event → Type 0
@@ -204,11 +204,11 @@ module _ (s : Scheme) (plan : Plan) (start : World) where
     pub good : s.good_lane lane ≡ true
     pub among : Contains messages m
     -- the mailbox is the one for which the message was judged
-    pub place : box_of (host_plan plan (wire plan k).host) m.slot ≡ Some b
+    pub place : box_of (host_plan plan (conn_plan plan k).host) m.slot ≡ Some b
     -- judged, after the frame was taken, and on a lane's own connection that after it was written
     pub judged : Past before (λ b e. JudgedFrom k lane m b e × Past b (λ b' e'. TakenFrom k lane number messages b' e' × OwnFrom k lane number messages m b'))
     -- a link on which a lane's own certificate and frame were read
-    pub link : (h l : ℕ) → (wire plan k).source ≡ Link → IsLane plan h l → lane ≡ (lane_plan (host_plan plan h) l).cert → WroteFrame h l number messages before → SentBy h l number messages m before
+    pub link : (h l : ℕ) → (conn_plan plan k).source ≡ Link → IsLane plan h l → lane ≡ (lane_plan (host_plan plan h) l).cert → WroteFrame h l number messages before → SentBy h l number messages m before
 
   -- of each event of the run that puts a message into a mailbox
 

@@ -1,29 +1,47 @@
+-- The plain world, in the order in which it is read.
+
+-- small words
 pub mod Lists
 pub mod Keys
 pub mod Stepping
+
+-- RULES: what may flow where, and the first rule that fails
 pub mod FirstRule
 pub mod ProcessRules
 pub mod Mapping
 pub mod Scheme
-pub mod Plan
+pub mod ExporterRules
+
+-- OBJECTS: what processes, workers and connections share
 pub mod Mailbox
 pub mod Lane
 pub mod Inlet
 pub mod Desk
-pub mod ExporterRules
+
+-- WHO IS THERE: what setup fixes, and what changes
+pub mod Plan
 pub mod World
-pub mod Asking
-pub mod LaneWork
-pub mod Connecting
+
+-- ACTORS: what each asks, and what it becomes
+pub mod ProcessStep
+pub mod WorkerStep
+pub mod ConnectionStep
+
+-- THE STEP: events, views, the canonical schedule
 pub mod Step
-pub mod Touch
-pub mod Answer
 pub mod Views
 pub mod Schedule
+
+-- WHAT IS PROMISED
+pub mod Lawful
+
+-- WHAT IS PRINTED
 pub mod Text
 pub mod Print
-pub mod Lawful
-pub mod SmallWorlds
-pub mod Carried
-pub mod Scripted
-pub mod Printed
+
+-- THE SAME, SEEN FROM THE OBJECTS
+pub mod Access
+pub mod Replies
+
+-- EXAMPLES
+pub mod Examples

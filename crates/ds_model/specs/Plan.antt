@@ -38,14 +38,14 @@ pub data Source : Type 0 where
   OfLane : (host lane : ℕ) → Source
 
 -- a connection: the host to which it leads, and its source
-pub record Wire : Type 0 where
+pub record ConnPlan : Type 0 where
   pub host : ℕ
   pub source : Source
 
 -- hosts and connections, by their places
 pub record Plan : Type 0 where
   pub hosts : List HostPlan
-  pub wires : List Wire
+  pub conn_plans : List ConnPlan
 
 -- the keys, hosts and things that stand where the plan has none
 abbrev pub no_signing : SigningKey
@@ -72,7 +72,7 @@ abbrev pub no_inlet : InletName
 no_inlet = record { exporter = no_key; lane = 0 }
 
 -- no connection
-abbrev pub no_wire : Wire
+abbrev pub no_wire : ConnPlan
 no_wire = record { host = 0; source = Link }
 
 -- host h
@@ -80,8 +80,8 @@ abbrev pub host_plan : Plan → ℕ → HostPlan
 host_plan plan h = get_or plan.hosts h no_host
 
 -- connection k
-abbrev pub wire : Plan → ℕ → Wire
-wire plan k = get_or plan.wires k no_wire
+abbrev pub conn_plan : Plan → ℕ → ConnPlan
+conn_plan plan k = get_or plan.conn_plans k no_wire
 
 -- mailbox b of a host
 abbrev pub box_plan : HostPlan → ℕ → BoxPlan

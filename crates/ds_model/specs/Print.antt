@@ -15,7 +15,7 @@ use Rattle.ds_script.specs.declared.note.Note.{Note}
 use Rattle.ds_script.specs.declared.note.Note.TheVariants as notes
 use Rattle.ds_model.specs.Keys.{same_key}
 use Rattle.ds_model.specs.Scheme.{Failure}
-use Rattle.ds_model.specs.Plan.{Plan, Source, Link, OfLane, host_plan, wire, box_plan, lane_plan, inlet_name}
+use Rattle.ds_model.specs.Plan.{Plan, Source, Link, OfLane, host_plan, conn_plan, box_plan, lane_plan, inlet_name}
 use Rattle.ds_model.specs.Mailbox.{BoxEntry, PutIn, FoundFull, TookOut, box_after}
 use Rattle.ds_model.specs.Inlet.{Inlet}
 use Rattle.ds_model.specs.Desk.{Desk}
@@ -232,7 +232,7 @@ module _ (p : Printing) (plan : Plan) where
   -- a connection, with its entries
   abbrev pub conn_text : (k : ℕ) → Conn → List ℕ → List ℕ
   conn_text k x arrived =
-      line (codes "conn" ∷ decimal k ∷ codes "from" ∷ source_name (wire plan k).source ∷ codes "to" ∷ host_name (wire plan k).host ∷ codes "arrived" ∷ decimal (length arrived) ∷ codes "stream" ∷ p.digest arrived ∷ codes "state" ∷ state_words x.failed)
+      line (codes "conn" ∷ decimal k ∷ codes "from" ∷ source_name (conn_plan plan k).source ∷ codes "to" ∷ host_name (conn_plan plan k).host ∷ codes "arrived" ∷ decimal (length arrived) ∷ codes "stream" ∷ p.digest arrived ∷ codes "state" ∷ state_words x.failed)
       ++ flat_map (λ e. entry (conn_words e)) x.lines
 
   -- each thing so printed

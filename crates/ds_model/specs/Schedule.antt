@@ -78,7 +78,7 @@ host_events plan h =
 
 -- a round: the hosts, then the connections
 abbrev pub round : Test → Scheme → Plan → (budget : ℕ) → Schedule → Schedule
-round changes s plan budget sch = all_connected changes s plan budget (length plan.wires) (all_tried changes s plan (gathered (host_events plan) (length plan.hosts)) sch)
+round changes s plan budget sch = all_connected changes s plan budget (length plan.conn_plans) (all_tried changes s plan (gathered (host_events plan) (length plan.hosts)) sch)
 
 -- where the round kept nothing the schedule ends
 abbrev pub after_round : Schedule → Schedule → Schedule → Schedule

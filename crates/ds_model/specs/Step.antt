@@ -4,7 +4,7 @@ use Rattle.std.specs.Prelude.{ℕ, List, [], ◌∷◌, ◌++◌, Option, Some, 
 use Rattle.ds_label.specs.declared.category.Category.{Category}
 use Rattle.ds_model.specs.Lists.{at}
 use Rattle.ds_model.specs.Scheme.{Scheme}
-use Rattle.ds_model.specs.Plan.{HostPlan, Plan, Source, Link, OfLane, host_plan, wire, box_plan, lane_plan}
+use Rattle.ds_model.specs.Plan.{HostPlan, Plan, Source, Link, OfLane, host_plan, conn_plan, box_plan, lane_plan}
 use Rattle.ds_model.specs.Mailbox.{put, oldest, took}
 use Rattle.ds_model.specs.Lane.{admit_entry, admit, front, lifted}
 use Rattle.ds_model.specs.Inlet.{Inlet, is_fresh, numbered}
@@ -13,9 +13,9 @@ use Rattle.ds_model.specs.ExporterRules.{judge_send, attach}
 use Rattle.ds_msg.specs.declared.message.Message.{Message}
 use Rattle.ds_label.specs.declared.rule.Rule.{Rule}
 use Rattle.ds_model.specs.World.{Process, Mail, Mailbox, Queue, Waiting, Worker, LaneLine, Conn, Host, World}
-use Rattle.ds_model.specs.Asking.{Ask, Stay, Alone, Put, Admit, TakeFrom, Do, Judge, ask, lane_of, told_taken, told_act, told_judged}
-use Rattle.ds_model.specs.LaneWork.{LaneAsk, Wait, Lift, Check, lane_ask, told_lifted, told_checked, admitted_line, checked_lines}
-use Rattle.ds_model.specs.Connecting.{ConnAsk, Quiet, Become, Number, JudgeOne, Hand, arrive, accept, deliver, judge_delivery, told_delivery}
+use Rattle.ds_model.specs.ProcessStep.{Ask, Waits, Internal, Put, Admit, TakeFrom, PublicAct, AsksJudgement, ask, lane_of, taken_after_reply, act_after_reply, judged_after_reply}
+use Rattle.ds_model.specs.WorkerStep.{LaneAsk, WorkerWaits, Lifts, AsksRecheck, lane_ask, lifted_after_reply, checked_after_reply, admitted_line, checked_lines}
+use Rattle.ds_model.specs.ConnectionStep.{ConnAsk, ConnWaits, ConnInternal, AsksInlet, AsksArrival, PutsPassed, arrive, accept, deliver, judge_delivery, delivery_after_reply}
 
 -- A step of a process; a frame, in two steps: the lift and the framing; so many more bytes arrive; the next item is
 -- taken; the next message is judged or put; the moment becomes at least this; an outsider appends bytes to a link's
@@ -56,13 +56,13 @@ attached s plan d m = attach s d.store d.moment plan.key m.label m.own m.clear
 
 -- the host after process p asked
 abbrev pub perform : Scheme → HostPlan → Host → ℕ → Ask → Host
-perform s plan x p Stay = x
-perform s plan x p (Alone next) = record x { procs = at p (λ _. next) x.procs }
+perform s plan x p Waits = x
+perform s plan x p (Internal next) = record x { procs = at p (λ _. next) x.procs }
 perform s plan x p (Put b m next) = record x { procs = at p (λ _. next) x.procs; boxes = at b (put (box_plan plan b).room m) x.boxes }
 perform s plan x p (Admit l m next) = record x { procs = at p (λ _. next) x.procs; queues = at l (admit (lane_plan plan l).room (record { sender = p; message = m })) x.queues; logs = at l (lined (admitted_lines (lane_plan plan l).room (record { sender = p; message = m }) (slice_get x.queues l))) x.logs }
-perform s plan x p (TakeFrom b reg slot) = record x { procs = at p (told_taken reg slot (oldest_in (slice_get x.boxes b))) x.procs; boxes = at b took x.boxes }
-perform s plan x p (Do act reg host) = record x { desk = desk_after plan.key (act_entry s plan x.desk act) x.desk; procs = at p (told_act reg host act (reply_of s plan x.desk (act_entry s plan x.desk act))) x.procs }
-perform s plan x p (Judge m) = record x { procs = at p (told_judged m (attached s plan x.desk m) (judged s plan x.desk m)) x.procs }
+perform s plan x p (TakeFrom b reg slot) = record x { procs = at p (taken_after_reply reg slot (oldest_in (slice_get x.boxes b))) x.procs; boxes = at b took x.boxes }
+perform s plan x p (PublicAct act reg host) = record x { desk = desk_after plan.key (act_entry s plan x.desk act) x.desk; procs = at p (act_after_reply reg host act (reply_of s plan x.desk (act_entry s plan x.desk act))) x.procs }
+perform s plan x p (AsksJudgement m) = record x { procs = at p (judged_after_reply m (attached s plan x.desk m) (judged s plan x.desk m)) x.procs }
 
 -- the host after a step of process p, where there is one
 abbrev pub step_proc : Scheme → HostPlan → Host → ℕ → Option Process → Host
@@ -83,9 +83,9 @@ checked_in s d (Some e) = checked_lines s d e
 
 -- the host after the worker of lane l asked
 abbrev pub perform_lane : Scheme → HostPlan → Host → ℕ → LaneAsk → Host
-perform_lane s plan x l Wait = x
-perform_lane s plan x l Lift = record x { queues = at l lifted x.queues; workers = at l (told_lifted (front_of (slice_get x.queues l))) x.workers }
-perform_lane s plan x l Check = record x { workers = at l (told_checked s (lane_plan plan l) x.desk) x.workers; logs = at l (lined (checked_in s x.desk (slice_get x.workers l))) x.logs }
+perform_lane s plan x l WorkerWaits = x
+perform_lane s plan x l Lifts = record x { queues = at l lifted x.queues; workers = at l (lifted_after_reply (front_of (slice_get x.queues l))) x.workers }
+perform_lane s plan x l AsksRecheck = record x { workers = at l (checked_after_reply s (lane_plan plan l) x.desk) x.workers; logs = at l (lined (checked_in s x.desk (slice_get x.workers l))) x.logs }
 
 -- the host after a frame event of lane l, where there is one
 abbrev pub step_lane : Scheme → HostPlan → Host → ℕ → Option Worker → Host
@@ -95,7 +95,7 @@ step_lane s plan x l (Some e) = perform_lane s plan x l (lane_ask s (lane_plan p
 -- CONNECTIONS
 
 -- a host and one of the connections to it
-pub record Ends : Type 0 where
+pub record HostAndConn : Type 0 where
   pub host : Host
   pub conn : Conn
 
@@ -105,12 +105,12 @@ fresh_in number None = false
 fresh_in number (Some i) = is_fresh number i
 
 -- both after the connection asked
-abbrev pub perform_conn : Scheme → HostPlan → Host → Conn → ConnAsk → Ends
-perform_conn s plan x k Quiet = record { host = x; conn = k }
-perform_conn s plan x k (Become next) = record { host = x; conn = next }
-perform_conn s plan x k (Number i number fresh stale) = record { host = record x { inlets = at i (numbered number) x.inlets }; conn = if fresh_in number (slice_get x.inlets i) then fresh else stale }
-perform_conn s plan x k (JudgeOne lane m rest) = record { host = x; conn = told_delivery lane m rest (judge_delivery s plan x.desk lane m) k }
-perform_conn s plan x k (Hand b m next) = record { host = record x { boxes = at b (put (box_plan plan b).room m) x.boxes }; conn = next }
+abbrev pub perform_conn : Scheme → HostPlan → Host → Conn → ConnAsk → HostAndConn
+perform_conn s plan x k ConnWaits = record { host = x; conn = k }
+perform_conn s plan x k (ConnInternal next) = record { host = x; conn = next }
+perform_conn s plan x k (AsksInlet i number fresh stale) = record { host = record x { inlets = at i (numbered number) x.inlets }; conn = if fresh_in number (slice_get x.inlets i) then fresh else stale }
+perform_conn s plan x k (AsksArrival lane m rest) = record { host = x; conn = delivery_after_reply lane m rest (judge_delivery s plan x.desk lane m) k }
+perform_conn s plan x k (PutsPassed b m next) = record { host = record x { boxes = at b (put (box_plan plan b).room m) x.boxes }; conn = next }
 
 -- the stream that a connection reads: a link's own, or the lane's
 
@@ -136,7 +136,7 @@ arrived w source k = take k.count (stream_of w source k)
 -- the stream of a connection that may not be there
 abbrev pub stream_at : World → Plan → ℕ → Option Conn → List ℕ
 stream_at w plan k None = []
-stream_at w plan k (Some conn) = stream_of w (wire plan k).source conn
+stream_at w plan k (Some conn) = stream_of w (conn_plan plan k).source conn
 
 -- a link's stream grows; nothing can be injected into a lane's connection
 abbrev pub injected : Source → List ℕ → Conn → Conn
@@ -144,7 +144,7 @@ injected Link bytes k = record k { link = k.link ++ bytes }
 injected (OfLane h l) bytes k = k
 
 -- the world with this host and this connection
-abbrev pub with_ends : World → ℕ → ℕ → Ends → World
+abbrev pub with_ends : World → ℕ → ℕ → HostAndConn → World
 with_ends w h k ends = record { hosts = at h (λ _. ends.host) w.hosts; conns = at k (λ _. ends.conn) w.conns }
 
 -- the world after connection k to host h asked, where both are there
@@ -183,11 +183,11 @@ resolve plan w (Inject k bytes) = Inject k bytes
 abbrev pub happens : Scheme → Plan → World → Event → World
 happens s plan w (Step h p) = on_host h (λ x. step_proc s (host_plan plan h) x p (slice_get x.procs p)) w
 happens s plan w (Frame h l) = on_host h (λ x. step_lane s (host_plan plan h) x l (slice_get x.workers l)) w
-happens s plan w (Arrive k n) = on_conn k (λ conn. arrive (stream_of w (wire plan k).source conn) n conn) w
-happens s plan w (Accept k) = step_conn s plan w (wire plan k).host k (λ conn. accept s (host_plan plan (wire plan k).host) conn (arrived w (wire plan k).source conn)) (slice_get w.hosts (wire plan k).host) (slice_get w.conns k)
-happens s plan w (Deliver k) = step_conn s plan w (wire plan k).host k (λ conn. deliver s (host_plan plan (wire plan k).host) conn (arrived w (wire plan k).source conn)) (slice_get w.hosts (wire plan k).host) (slice_get w.conns k)
+happens s plan w (Arrive k n) = on_conn k (λ conn. arrive (stream_of w (conn_plan plan k).source conn) n conn) w
+happens s plan w (Accept k) = step_conn s plan w (conn_plan plan k).host k (λ conn. accept s (host_plan plan (conn_plan plan k).host) conn (arrived w (conn_plan plan k).source conn)) (slice_get w.hosts (conn_plan plan k).host) (slice_get w.conns k)
+happens s plan w (Deliver k) = step_conn s plan w (conn_plan plan k).host k (λ conn. deliver s (host_plan plan (conn_plan plan k).host) conn (arrived w (conn_plan plan k).source conn)) (slice_get w.hosts (conn_plan plan k).host) (slice_get w.conns k)
 happens s plan w (Tick h t) = on_host h (ticked (host_plan plan h) t) w
-happens s plan w (Inject k bytes) = on_conn k (injected (wire plan k).source bytes) w
+happens s plan w (Inject k bytes) = on_conn k (injected (conn_plan plan k).source bytes) w
 happens s plan w (Copy k j from until) = w
 
 -- the world after an event

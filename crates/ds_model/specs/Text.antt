@@ -3,7 +3,7 @@
 -- printed is left open: a format says it, and all that it needs stands in the plan and the world.
 use Rattle.std.specs.Prelude.{ℕ, Bool, false, List, [], ◌∷◌, ◌++◌, Option, Some, None, length, slice_get, if◌then◌else◌}
 use Rattle.ds_model.specs.Lists.{gathered}
-use Rattle.ds_model.specs.Plan.{HostPlan, Plan, host_plan, wire}
+use Rattle.ds_model.specs.Plan.{HostPlan, Plan, host_plan, conn_plan}
 use Rattle.ds_model.specs.Inlet.{Inlet}
 use Rattle.ds_model.specs.Desk.{Desk}
 use Rattle.ds_model.specs.World.{Process, Mailbox, Queue, Worker, LaneLine, Conn, Host, World}
@@ -63,18 +63,18 @@ sections_at f hiding plan h (Some x) = if plan.silent then [] else host_sections
 -- the section of a connection that is there
 abbrev pub conn_section : Format → Plan → World → ℕ → Option Conn → List (List ℕ)
 conn_section f plan w k None = []
-conn_section f plan w k (Some y) = f.conn k y (arrived w (wire plan k).source y) ∷ []
+conn_section f plan w k (Some y) = f.conn k y (arrived w (conn_plan plan k).source y) ∷ []
 
 -- a connection to a silent host has none
 abbrev pub conn_sections : Format → Plan → World → ℕ → List (List ℕ)
-conn_sections f plan w k = if (host_plan plan (wire plan k).host).silent then [] else conn_section f plan w k (slice_get w.conns k)
+conn_sections f plan w k = if (host_plan plan (conn_plan plan k).host).silent then [] else conn_section f plan w k (slice_get w.conns k)
 
 -- the first line, the hosts' sections, and those of connections
 abbrev pub sections_of : Format → Hiding → Plan → World → List (List ℕ)
 sections_of f hiding plan w =
     f.first
     ∷ (gathered (λ h. sections_at f hiding (host_plan plan h) h (slice_get w.hosts h)) (length plan.hosts)
-    ++ sections hiding.conn (conn_sections f plan w) (length plan.wires))
+    ++ sections hiding.conn (conn_sections f plan w) (length plan.conn_plans))
 
 -- sections one after another
 abbrev pub joined : List (List ℕ) → List ℕ

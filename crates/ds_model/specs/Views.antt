@@ -6,7 +6,7 @@ use Rattle.ds_cert.specs.declared.address.Address.{Address}
 use Rattle.ds_script.specs.declared.note.Note.{Note}
 use Rattle.ds_model.specs.Lists.{gathered}
 use Rattle.ds_model.specs.Scheme.{Scheme}
-use Rattle.ds_model.specs.Plan.{Plan, wire}
+use Rattle.ds_model.specs.Plan.{Plan, conn_plan}
 use Rattle.ds_model.specs.Desk.{Desk}
 use Rattle.ds_model.specs.World.{Process, Conn, Host, World}
 use Rattle.ds_model.specs.Step.{Event, Step, Frame, Arrive, Accept, Deliver, Tick, Inject, Copy, arrived, step}
@@ -47,7 +47,7 @@ pub record HostView : Type 0 where
 -- the arrived bytes of a connection that may not be there
 abbrev pub arrived_in : Plan → World → ℕ → Option Conn → List (List ℕ)
 arrived_in plan w k None = []
-arrived_in plan w k (Some y) = arrived w (wire plan k).source y ∷ []
+arrived_in plan w k (Some y) = arrived w (conn_plan plan k).source y ∷ []
 
 -- what arrived on a connection, where there is one
 abbrev pub arrived_at : Plan → World → (conn : ℕ) → List (List ℕ)
@@ -55,7 +55,7 @@ arrived_at plan w k = arrived_in plan w k (slice_get w.conns k)
 
 -- those of each connection to a host
 abbrev pub arrived_to : Plan → World → (host : ℕ) → List (List ℕ)
-arrived_to plan w h = gathered (λ k. if (wire plan k).host == h then arrived_at plan w k else []) (length plan.wires)
+arrived_to plan w h = gathered (λ k. if (conn_plan plan k).host == h then arrived_at plan w k else []) (length plan.conn_plans)
 
 -- the view of a desk and of arrived bytes
 abbrev pub host_view : Desk → List (List ℕ) → HostView

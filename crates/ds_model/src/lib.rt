@@ -3,13 +3,13 @@
 #![tactic(auto)]
 
 ghost use Rattle.ds_model.specs.Schedule.{OneSchedule};
-ghost use Rattle.ds_model.specs.Touch.{BoxesReplay, LanesReplay, InletsReplay, DesksReplay};
-ghost use Rattle.ds_model.specs.Answer.{ProcessesTold, WorkersTold, ConnectionsTold};
+ghost use Rattle.ds_model.specs.Access.{BoxesReplay, LanesReplay, InletsReplay, DesksReplay};
+ghost use Rattle.ds_model.specs.Replies.{ProcessesTold, WorkersTold, ConnectionsTold};
 ghost use Rattle.ds_model.specs.Lawful.{SentLawfully};
-ghost use Rattle.ds_model.specs.SmallWorlds.{Prints, IsRefused, IsReleased, IsScheduled, IsFull, IsStale};
-ghost use Rattle.ds_model.specs.Scripted.{IsScripted};
-ghost use Rattle.ds_model.specs.Carried.{IsCarried};
-ghost use Rattle.ds_model.specs.Printed.{IsPrinting, IsTrying, IsPosted};
+ghost use Rattle.ds_model.specs.Examples.OneHost.{Prints, IsRefused, IsReleased, IsScheduled, IsFull, IsStale};
+ghost use Rattle.ds_model.specs.Examples.Script.{IsScripted};
+ghost use Rattle.ds_model.specs.Examples.TwoHosts.{IsCarried};
+ghost use Rattle.ds_model.specs.Examples.Texts.{IsPrinting, IsTrying, IsPosted};
 
 /// A world has one canonical schedule, by whatever test finds the events that change nothing.
 pub fn one_schedule()

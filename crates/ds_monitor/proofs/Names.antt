@@ -14,10 +14,10 @@ use Rattle.ds_label.specs.Numbers.{by_number}
 use Rattle.ds_model.specs.ProcessRules.{may_send, may_take, may_publish, may_relabel, may_make, can_grant}
 use Rattle.ds_model.specs.Mapping.{is_home, is_known, number_of, home_number, next_category}
 use Rattle.ds_map.specs.Labels.{has_name, name_of, named}
-use Rattle.ds_map.specs.Alike.{UnderNames, UnderTables}
+use Rattle.ds_map.specs.Translation.{UnderNames, UnderTables}
 use Rattle.ds_map.proofs.Numbers.{same_rules, number_named, name_of-number_of}
 use Rattle.ds_monitor.specs.declared.fault.ProcFault.{ProcFault}
-use Rattle.ds_monitor.specs.Answers.{Answers}
+use Rattle.ds_monitor.specs.Judgements.{Answers}
 
 pub send_names : (r : Option Rule) (label own clear to grant grant_clear : List ℕ) → r ≡ may_send by_number label own clear to grant grant_clear →
     UnderNames (label ∷ own ∷ clear ∷ to ∷ grant ∷ grant_clear ∷ []) (λ names. r ≡ may_send by_name (names label) (names own) (names clear) (names to) (names grant) (names grant_clear))

@@ -10,8 +10,8 @@ ghost use Rattle.ds_script.specs.Process.{ProcView, made_process, granted_proces
 ghost use Rattle.ds_model.specs.Mapping.{home_number as number_of_home, next_category};
 ghost use Rattle.ds_model.specs.ProcessRules.{may_send as send_rule, may_take as take_rule, may_publish as publish_rule, may_relabel as relabel_rule, may_make as make_rule, can_grant};
 ghost use Rattle.ds_map.specs.Labels.{named, have_names};
-ghost use Rattle.ds_map.specs.Alike.{UnderNames, UnderTables};
-ghost use Rattle.ds_monitor.specs.Answers.{Answers};
+ghost use Rattle.ds_map.specs.Translation.{UnderNames, UnderTables};
+ghost use Rattle.ds_monitor.specs.Judgements.{Answers};
 
 use crate::fault::ProcFault;
 use crate::judging::{judge_label, judge_make, judge_publish, judge_send, judge_take};

@@ -15,7 +15,7 @@ use Rattle.ds_model.specs.ProcessRules.{may_relabel, mailbox_rule}
 use Rattle.ds_model.specs.Plan.{HostPlan, box_plan, lane_plan, no_lane}
 use Rattle.ds_model.specs.Desk.{Act}
 use Rattle.ds_model.specs.World.{Process}
-use Rattle.ds_model.specs.Asking.{Ask, Stay, Alone, Put, Admit, TakeFrom, Do, Judge, usable_rule, box_of, label_of, Target, Not, Into, target, judge_box, send_rule, send_here, send_away, send, message_of, take_rule, take_from, relabel, new_category, make, publish, ask_outer, ask_inner, lane_of, queue_at, ask_hand, ask}
+use Rattle.ds_model.specs.ProcessStep.{Ask, Waits, Internal, Put, Admit, TakeFrom, PublicAct, AsksJudgement, usable_rule, box_of, label_of, Target, Not, Into, target, judge_box, send_rule, send_here, send_away, send, message_of, take_rule, take_from, relabel, new_category, make, publish, ask_outer, ask_inner, lane_of, queue_at, ask_hand, ask}
 use Rattle.ds_label.specs.declared.rule.Rule.TheVariants.{NotFlowToBox}
 use Rattle.ds_model.proofs.Places.{cond_case}
 use Rattle.ds_noninterference.proofs.Flow.{and_left, and_right, or_cases, or_left, or_right, flows_carries, member_keeps, same_key_is}
@@ -26,13 +26,13 @@ pub record Follows (x y : Process) : Type 0 where
   pub hand : (y.hand ≡ x.hand) ⊎ (y.hand ≡ None)
 
 abbrev pub AskFacts : HostPlan → ℕ → Process → Ask → Type 0
-AskFacts plan p x Stay = Unit {0}
-AskFacts plan p x (Alone next) = Follows x next
+AskFacts plan p x Waits = Unit {0}
+AskFacts plan p x (Internal next) = Follows x next
 AskFacts plan p x (Put b m next) = Follows x next × (flows by_name m.label (box_plan plan b).label [] ≡ true)
 AskFacts plan p x (Admit l m next) = Follows x next × (x.hand ≡ Some m) × ((lane_plan plan l).cert.receiver ≡ m.to) × (same_label by_name (lane_plan plan l).cert.label m.label ≡ true)
 AskFacts plan p x (TakeFrom b reg slot) = (p ≡ (box_plan plan b).owner) × (flows by_name (box_plan plan b).label x.label x.own ≡ true)
-AskFacts plan p x (Do act reg host) = Unit {0}
-AskFacts plan p x (Judge m) = Unit {0}
+AskFacts plan p x (PublicAct act reg host) = Unit {0}
+AskFacts plan p x (AsksJudgement m) = Unit {0}
 
 pub first_none : (a b : Option Rule) → or_else a b ≡ None → (a ≡ None) × (b ≡ None)
 first_none None b h = (refl, h)

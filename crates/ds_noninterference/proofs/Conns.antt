@@ -14,8 +14,8 @@ use Rattle.ds_model.specs.Plan.{HostPlan, Plan, host_plan, box_plan, inlet_name,
 use Rattle.ds_model.specs.Mailbox.{put}
 use Rattle.ds_model.specs.Inlet.{Inlet, numbered}
 use Rattle.ds_model.specs.World.{Mail, Mailbox, Conn, Host, Passed}
-use Rattle.ds_model.specs.Asking.{box_of, mail_of}
-use Rattle.ds_model.specs.Connecting.{ConnAsk, Quiet, Become, Number, JudgeOne, Hand, hello_of, peer, inlet_of, take_frame, frame_from, fail, accept_item, accept_free, accept, put_passed, deliver_to, deliver_from, deliver, judge_delivery, told_delivery}
+use Rattle.ds_model.specs.ProcessStep.{box_of, mail_of}
+use Rattle.ds_model.specs.ConnectionStep.{ConnAsk, ConnWaits, ConnInternal, AsksInlet, AsksArrival, PutsPassed, hello_of, peer, inlet_of, take_frame, frame_from, fail, accept_item, accept_free, accept, put_passed, deliver_to, deliver_from, deliver, judge_delivery, delivery_after_reply}
 use Rattle.ds_model.specs.Step.{fresh_in, perform_conn}
 use Rattle.ds_noninterference.specs.High.{is_in, high_box, HighInlet}
 use Rattle.ds_noninterference.specs.Alike.{Alike, AlikeHosts}
@@ -46,11 +46,11 @@ pub record HandFacts (plan : HostPlan) (y : Conn) (b : ℕ) (next : Conn) : Type
   pub empty : next.passed ≡ None
 
 abbrev pub ConnFacts : Scheme → HostPlan → Conn → List ℕ → ConnAsk → Type 0
-ConnFacts s plan y bytes Quiet = Unit {0}
-ConnFacts s plan y bytes (Become next) = (next.passed ≡ y.passed) ⊎ (next.passed ≡ None)
-ConnFacts s plan y bytes (Number i n fresh stale) = NumberFacts s plan y bytes i fresh stale
-ConnFacts s plan y bytes (JudgeOne cert m rest) = peer s plan bytes ≡ Some cert
-ConnFacts s plan y bytes (Hand b m next) = HandFacts plan y b next
+ConnFacts s plan y bytes ConnWaits = Unit {0}
+ConnFacts s plan y bytes (ConnInternal next) = (next.passed ≡ y.passed) ⊎ (next.passed ≡ None)
+ConnFacts s plan y bytes (AsksInlet i n fresh stale) = NumberFacts s plan y bytes i fresh stale
+ConnFacts s plan y bytes (AsksArrival cert m rest) = peer s plan bytes ≡ Some cert
+ConnFacts s plan y bytes (PutsPassed b m next) = HandFacts plan y b next
 
 -- the first item is the hello, so a frame isn't
 after_hello : (s : Scheme) (plan : HostPlan) (bytes : List ℕ) (place n : ℕ) (ms : List Message) (cert : LaneCert) → peer s plan bytes ≡ Some cert → slice_get (s.items plan.key plan.inlets bytes) place ≡ Some (Framed n ms) → 0 < place
@@ -81,7 +81,7 @@ free_facts s plan y bytes [] (Some m) failed = tt
 free_facts s plan y bytes [] None (Some fault) = tt
 
 pub accept_facts : (s : Scheme) (plan : HostPlan) (y : Conn) (bytes : List ℕ) → ConnFacts s plan y bytes (accept s plan y bytes)
-accept_facts s plan y bytes = cond_case (ConnFacts s plan y bytes) plan.silent Quiet (accept_free s plan y bytes y.hand y.passed y.failed) (λ _. tt) (λ _. free_facts s plan y bytes y.hand y.passed y.failed)
+accept_facts s plan y bytes = cond_case (ConnFacts s plan y bytes) plan.silent ConnWaits (accept_free s plan y bytes y.hand y.passed y.failed) (λ _. tt) (λ _. free_facts s plan y bytes y.hand y.passed y.failed)
 
 put_facts : (s : Scheme) (plan : HostPlan) (y : Conn) (bytes : List ℕ) (message : Passed) (m : Mail Category) (o : Option ℕ) → y.passed ≡ Some message → box_of plan message.slot ≡ o → ConnFacts s plan y bytes (put_passed y m o)
 put_facts s plan y bytes message m None e q = tt
@@ -97,7 +97,7 @@ from_facts s plan y bytes None e = tt
 from_facts s plan y bytes (Some cert) e = to_facts s plan y bytes cert y.hand y.passed e refl
 
 pub deliver_facts : (s : Scheme) (plan : HostPlan) (y : Conn) (bytes : List ℕ) → ConnFacts s plan y bytes (deliver s plan y bytes)
-deliver_facts s plan y bytes = cond_case (ConnFacts s plan y bytes) plan.silent Quiet (deliver_from plan y (peer s plan bytes)) (λ _. tt) (λ _. from_facts s plan y bytes _ refl)
+deliver_facts s plan y bytes = cond_case (ConnFacts s plan y bytes) plan.silent ConnWaits (deliver_from plan y (peer s plan bytes)) (λ _. tt) (λ _. from_facts s plan y bytes _ refl)
 
 -- the inlet that a certificate finds is its exporter's and has its number
 pub inlet_found : (plan : HostPlan) (cert : LaneCert) (i : ℕ) → inlet_of plan cert ≡ Some i → ((inlet_name plan i).exporter ≡ cert.exporter) × ((inlet_name plan i).lane ≡ cert.lane)
@@ -108,18 +108,18 @@ inlet_found plan cert i e =
 -- what a High connection's asks touch is High; what another's asks touch of inlets isn't
 
 abbrev pub QuietAsk : Category → List ℕ → Plan → ℕ → ConnAsk → Type 0
-QuietAsk c trusted plan r Quiet = Unit {0}
-QuietAsk c trusted plan r (Become next) = Unit {0}
-QuietAsk c trusted plan r (Number i n fresh stale) = HighInlet c trusted plan r i
-QuietAsk c trusted plan r (JudgeOne cert m rest) = Unit {0}
-QuietAsk c trusted plan r (Hand b m next) = (is_in trusted r ≡ true) × (has by_name c (box_plan (host_plan plan r) b).label ≡ true)
+QuietAsk c trusted plan r ConnWaits = Unit {0}
+QuietAsk c trusted plan r (ConnInternal next) = Unit {0}
+QuietAsk c trusted plan r (AsksInlet i n fresh stale) = HighInlet c trusted plan r i
+QuietAsk c trusted plan r (AsksArrival cert m rest) = Unit {0}
+QuietAsk c trusted plan r (PutsPassed b m next) = (is_in trusted r ≡ true) × (has by_name c (box_plan (host_plan plan r) b).label ≡ true)
 
 abbrev pub SeenAsk : Category → List ℕ → Plan → ℕ → ConnAsk → Type 0
-SeenAsk c trusted plan r Quiet = Unit {0}
-SeenAsk c trusted plan r (Become next) = Unit {0}
-SeenAsk c trusted plan r (Number i n fresh stale) = HighInlet c trusted plan r i → ⊥
-SeenAsk c trusted plan r (JudgeOne cert m rest) = Unit {0}
-SeenAsk c trusted plan r (Hand b m next) = Unit {0}
+SeenAsk c trusted plan r ConnWaits = Unit {0}
+SeenAsk c trusted plan r (ConnInternal next) = Unit {0}
+SeenAsk c trusted plan r (AsksInlet i n fresh stale) = HighInlet c trusted plan r i → ⊥
+SeenAsk c trusted plan r (AsksArrival cert m rest) = Unit {0}
+SeenAsk c trusted plan r (PutsPassed b m next) = Unit {0}
 
 module _ (s : Scheme) (c : Category) (trusted : List ℕ) (plan : Plan) (r : ℕ) where
   quiet_inlet : (x : Host) (i : ℕ) (f : Inlet → Inlet) → HighInlet c trusted plan r i → AlikeHosts c trusted plan r x (record x { inlets = at i f x.inlets })
@@ -145,17 +145,17 @@ module _ (s : Scheme) (c : Category) (trusted : List ℕ) (plan : Plan) (r : ℕ
   }
 
   pub quiet_conn : (x : Host) (y : Conn) (a : ConnAsk) → QuietAsk c trusted plan r a → AlikeHosts c trusted plan r x (perform_conn s (host_plan plan r) x y a).host
-  quiet_conn x y Quiet q = alike_self c trusted plan r x
-  quiet_conn x y (Become next) q = alike_self c trusted plan r x
-  quiet_conn x y (Number i n fresh stale) q = quiet_inlet x i (numbered n) q
-  quiet_conn x y (JudgeOne cert m rest) q = alike_self c trusted plan r x
-  quiet_conn x y (Hand b m next) q = quiet_mail x b (put (box_plan (host_plan plan r) b).room m) q.0 q.1
+  quiet_conn x y ConnWaits q = alike_self c trusted plan r x
+  quiet_conn x y (ConnInternal next) q = alike_self c trusted plan r x
+  quiet_conn x y (AsksInlet i n fresh stale) q = quiet_inlet x i (numbered n) q
+  quiet_conn x y (AsksArrival cert m rest) q = alike_self c trusted plan r x
+  quiet_conn x y (PutsPassed b m next) q = quiet_mail x b (put (box_plan (host_plan plan r) b).room m) q.0 q.1
 
   module _ (x x' : Host) (alike : AlikeHosts c trusted plan r x x') (y : Conn) where
     pub same_host : (a : ConnAsk) → SeenAsk c trusted plan r a → AlikeHosts c trusted plan r (perform_conn s (host_plan plan r) x y a).host (perform_conn s (host_plan plan r) x' y a).host
-    same_host Quiet q = alike
-    same_host (Become next) q = alike
-    same_host (Number i n fresh stale) q = record {
+    same_host ConnWaits q = alike
+    same_host (ConnInternal next) q = alike
+    same_host (AsksInlet i n fresh stale) q = record {
       desk = alike.desk;
       procs = alike.procs;
       boxes = alike.boxes;
@@ -168,8 +168,8 @@ module _ (s : Scheme) (c : Category) (trusted : List ℕ) (plan : Plan) (r : ℕ
         same : {o o' : Option Inlet} → (o ≡ o') ⊎ HighInlet c trusted plan r i → (option_map (numbered n) o ≡ option_map (numbered n) o') ⊎ HighInlet c trusted plan r i
         same (inl e) = inl (ap (option_map (numbered n)) e)
         same (inr e) = inr e
-    same_host (JudgeOne cert m rest) q = alike
-    same_host (Hand b m next) q = record {
+    same_host (AsksArrival cert m rest) q = alike
+    same_host (PutsPassed b m next) q = record {
       desk = alike.desk;
       procs = alike.procs;
       boxes = both_at (λ j a d. Alike (high_box c (is_in trusted r) (host_plan plan r) x.procs j) (high_box c (is_in trusted r) (host_plan plan r) x'.procs j) a d) (λ j a d. Alike (high_box c (is_in trusted r) (host_plan plan r) x.procs j) (high_box c (is_in trusted r) (host_plan plan r) x'.procs j) a d) b (put (box_plan (host_plan plan r) b).room m) (put (box_plan (host_plan plan r) b).room m) x.boxes x'.boxes alike.boxes (λ j n e. e) same;
@@ -188,8 +188,8 @@ module _ (s : Scheme) (c : Category) (trusted : List ℕ) (plan : Plan) (r : ℕ
     seen_inlet q (inr h) = absurd (q h)
 
     pub same_conn : (a : ConnAsk) → SeenAsk c trusted plan r a → (perform_conn s (host_plan plan r) x y a).conn ≡ (perform_conn s (host_plan plan r) x' y a).conn
-    same_conn Quiet q = refl
-    same_conn (Become next) q = refl
-    same_conn (Number i n fresh stale) q = ap (λ o. if fresh_in n o then fresh else stale) (seen_inlet q (alike.inlets i))
-    same_conn (JudgeOne cert m rest) q = ap (λ d. told_delivery cert m rest (judge_delivery s (host_plan plan r) d cert m) y) alike.desk
-    same_conn (Hand b m next) q = refl
+    same_conn ConnWaits q = refl
+    same_conn (ConnInternal next) q = refl
+    same_conn (AsksInlet i n fresh stale) q = ap (λ o. if fresh_in n o then fresh else stale) (seen_inlet q (alike.inlets i))
+    same_conn (AsksArrival cert m rest) q = ap (λ d. delivery_after_reply cert m rest (judge_delivery s (host_plan plan r) d cert m) y) alike.desk
+    same_conn (PutsPassed b m next) q = refl

@@ -5,14 +5,14 @@ use Rattle.ds_label.specs.declared.category.Category.{Category}
 use Rattle.ds_label.specs.Names.{is_secrecy}
 use Rattle.ds_cert.specs.declared.lane.LaneCert.{LaneCert}
 use Rattle.ds_model.specs.Scheme.{Scheme}
-use Rattle.ds_model.specs.Plan.{HostPlan, Plan, Source, Link, OfLane, IsLane, host_plan, wire, lane_plan, inlet_name}
+use Rattle.ds_model.specs.Plan.{HostPlan, Plan, Source, Link, OfLane, IsLane, host_plan, conn_plan, lane_plan, inlet_name}
 use Rattle.ds_model.specs.Desk.{Ticked, desk_after}
 use Rattle.ds_model.specs.World.{Worker, Conn, Host, World}
-use Rattle.ds_model.specs.Connecting.{ConnAsk, Quiet, Become, Number, JudgeOne, Hand, arrive, peer, accept, deliver}
-use Rattle.ds_model.specs.Step.{Event, Step, Frame, Arrive, Accept, Deliver, Tick, Inject, Copy, Ends, perform_conn, stream_from, worker_at, stream_of, arrived, injected, with_ends, step_conn, ticked, on_host, on_conn, happens}
+use Rattle.ds_model.specs.ConnectionStep.{ConnAsk, ConnWaits, ConnInternal, AsksInlet, AsksArrival, PutsPassed, arrive, peer, accept, deliver}
+use Rattle.ds_model.specs.Step.{Event, Step, Frame, Arrive, Accept, Deliver, Tick, Inject, Copy, HostAndConn, perform_conn, stream_from, worker_at, stream_of, arrived, injected, with_ends, step_conn, ticked, on_host, on_conn, happens}
 use Rattle.ds_model.specs.Views.{proc_in}
 use Rattle.ds_noninterference.specs.High.{is_in, high_lane, high_source, high_conn, HighInlet, IsTrusted}
-use Rattle.ds_noninterference.specs.Marks.{High, mark_proc, high_or, mark_of}
+use Rattle.ds_noninterference.specs.Observations.{High, mark_proc, high_or, mark_of}
 use Rattle.ds_noninterference.specs.Alike.{Hidden, AlikeHosts, AlikeAt, AlikeWorlds}
 use Rattle.ds_noninterference.specs.Premises.{IsScheme}
 use Rattle.ds_noninterference.proofs.Places.{both_at, one_at}
@@ -65,7 +65,7 @@ module _ (s : Scheme) (c : Category) (trusted : List ℕ) (plan : Plan) where
     conns = one_at (λ j a b. (a ≡ b) ⊎ (high_conn c trusted plan j ≡ true)) k f w.conns (λ j n. inl refl) (inr high);
   }
 
-  quiet_ends : (w : World) (h k : ℕ) (x : Host) (e : Ends) → slice_get w.hosts h ≡ Some x → high_conn c trusted plan k ≡ true → AlikeHosts c trusted plan h x e.host → AlikeWorlds c trusted plan w (with_ends w h k e)
+  quiet_ends : (w : World) (h k : ℕ) (x : Host) (e : HostAndConn) → slice_get w.hosts h ≡ Some x → high_conn c trusted plan k ≡ true → AlikeHosts c trusted plan h x e.host → AlikeWorlds c trusted plan w (with_ends w h k e)
   quiet_ends w h k x e there high alike = record {
     hosts = one_at (AlikeAt c trusted plan) h (λ _. e.host) w.hosts (λ j n. at_self j (slice_get w.hosts j))
         (subst (λ o. AlikeAt c trusted plan h o (option_map (λ _. e.host) o)) (sym there) alike);
@@ -93,7 +93,7 @@ module _ (s : Scheme) (c : Category) (trusted : List ℕ) (plan : Plan) where
       go (inl e) = inl (same e)
       go (inr high) = inr high
 
-  both_ends : (v w : World) → AlikeWorlds c trusted plan v w → (h k : ℕ) (x y : Host) (d e : Ends) → slice_get v.hosts h ≡ Some x → slice_get w.hosts h ≡ Some y → slice_get v.conns k ≡ slice_get w.conns k → AlikeHosts c trusted plan h d.host e.host → d.conn ≡ e.conn → AlikeWorlds c trusted plan (with_ends v h k d) (with_ends w h k e)
+  both_ends : (v w : World) → AlikeWorlds c trusted plan v w → (h k : ℕ) (x y : Host) (d e : HostAndConn) → slice_get v.hosts h ≡ Some x → slice_get w.hosts h ≡ Some y → slice_get v.conns k ≡ slice_get w.conns k → AlikeHosts c trusted plan h d.host e.host → d.conn ≡ e.conn → AlikeWorlds c trusted plan (with_ends v h k d) (with_ends w h k e)
   both_ends v w alike h k x y d e there there' same hosts' conns' = record {
     hosts = both_at (AlikeAt c trusted plan) (AlikeAt c trusted plan) h (λ _. d.host) (λ _. e.host) v.hosts w.hosts alike.hosts (λ j n r. r)
         (λ r. subst₂ (λ o q. AlikeAt c trusted plan h (option_map (λ _. d.host) o) (option_map (λ _. e.host) q)) (sym there) (sym there') hosts');
@@ -123,11 +123,11 @@ module _ (s : Scheme) (c : Category) (trusted : List ℕ) (plan : Plan) where
     module _ (fits : Setting c trusted plan) (k : ℕ) (y : Conn) (there : slice_get w.conns k ≡ Some y) where
       -- a High connection asks only for what is High
 
-      high_number : (source : Source) (i n : ℕ) (fresh stale : Conn) → (wire plan k).source ≡ source → high_source c trusted plan (wire plan k).host source ≡ true → NumberFacts s (host_plan plan (wire plan k).host) y (arrived w source y) i fresh stale → HighInlet c trusted plan (wire plan k).host i
+      high_number : (source : Source) (i n : ℕ) (fresh stale : Conn) → (conn_plan plan k).source ≡ source → high_source c trusted plan (conn_plan plan k).host source ≡ true → NumberFacts s (host_plan plan (conn_plan plan k).host) y (arrived w source y) i fresh stale → HighInlet c trusted plan (conn_plan plan k).host i
       high_number Link i n fresh stale q high f = absurd (grind arith)
       high_number (OfLane h l) i n fresh stale q high f =
-          let own : f.cert ≡ (lane_plan (host_plan plan h) l).cert = own_peer h l (fits.real k h l q) (host_plan plan (wire plan k).host) y f.cert f.read in
-          let found : ((inlet_name (host_plan plan (wire plan k).host) i).exporter ≡ f.cert.exporter) × ((inlet_name (host_plan plan (wire plan k).host) i).lane ≡ f.cert.lane) = inlet_found (host_plan plan (wire plan k).host) f.cert i f.inlet in
+          let own : f.cert ≡ (lane_plan (host_plan plan h) l).cert = own_peer h l (fits.real k h l q) (host_plan plan (conn_plan plan k).host) y f.cert f.read in
+          let found : ((inlet_name (host_plan plan (conn_plan plan k).host) i).exporter ≡ f.cert.exporter) × ((inlet_name (host_plan plan (conn_plan plan k).host) i).lane ≡ f.cert.lane) = inlet_found (host_plan plan (conn_plan plan k).host) f.cert i f.inlet in
           record {
             host = h;
             lane = l;
@@ -138,48 +138,48 @@ module _ (s : Scheme) (c : Category) (trusted : List ℕ) (plan : Plan) where
             number = ap (λ u. u.lane) (sym own) ∙ sym found.1;
           }
 
-      high_here : (source : Source) → high_source c trusted plan (wire plan k).host source ≡ true → is_in trusted (wire plan k).host ≡ true
+      high_here : (source : Source) → high_source c trusted plan (conn_plan plan k).host source ≡ true → is_in trusted (conn_plan plan k).host ≡ true
       high_here Link high = absurd (grind arith)
       high_here (OfLane h l) high = and_right _ _ high
 
-      quiet_facts : (source : Source) (a : ConnAsk) → (wire plan k).source ≡ source → high_source c trusted plan (wire plan k).host source ≡ true → high_conn c trusted plan k ≡ true → ConnFacts s (host_plan plan (wire plan k).host) y (arrived w source y) a → QuietAsk c trusted plan (wire plan k).host a
-      quiet_facts source Quiet q high hc f = tt
-      quiet_facts source (Become next) q high hc f = tt
-      quiet_facts source (Number i n fresh stale) q high hc f = high_number source i n fresh stale q high f
-      quiet_facts source (JudgeOne cert m rest) q high hc f = tt
-      quiet_facts source (Hand b m next) q high hc f = (high_here source high, kept.conns k y there hc f.message b f.passed f.box)
+      quiet_facts : (source : Source) (a : ConnAsk) → (conn_plan plan k).source ≡ source → high_source c trusted plan (conn_plan plan k).host source ≡ true → high_conn c trusted plan k ≡ true → ConnFacts s (host_plan plan (conn_plan plan k).host) y (arrived w source y) a → QuietAsk c trusted plan (conn_plan plan k).host a
+      quiet_facts source ConnWaits q high hc f = tt
+      quiet_facts source (ConnInternal next) q high hc f = tt
+      quiet_facts source (AsksInlet i n fresh stale) q high hc f = high_number source i n fresh stale q high f
+      quiet_facts source (AsksArrival cert m rest) q high hc f = tt
+      quiet_facts source (PutsPassed b m next) q high hc f = (high_here source high, kept.conns k y there hc f.message b f.passed f.box)
 
       -- another one touches no High inlet
 
       module _ (sound : Sound s c trusted plan w) where
-        low_number : (source : Source) (i n : ℕ) (fresh stale : Conn) → (wire plan k).source ≡ source → high_source c trusted plan (wire plan k).host source ≡ false → NumberFacts s (host_plan plan (wire plan k).host) y (arrived w source y) i fresh stale → HighInlet c trusted plan (wire plan k).host i → ⊥
+        low_number : (source : Source) (i n : ℕ) (fresh stale : Conn) → (conn_plan plan k).source ≡ source → high_source c trusted plan (conn_plan plan k).host source ≡ false → NumberFacts s (host_plan plan (conn_plan plan k).host) y (arrived w source y) i fresh stale → HighInlet c trusted plan (conn_plan plan k).host i → ⊥
         low_number Link i n fresh stale q low f hi =
-            let found : ((inlet_name (host_plan plan (wire plan k).host) i).exporter ≡ f.cert.exporter) × ((inlet_name (host_plan plan (wire plan k).host) i).lane ≡ f.cert.lane) = inlet_found (host_plan plan (wire plan k).host) f.cert i f.inlet in
+            let found : ((inlet_name (host_plan plan (conn_plan plan k).host) i).exporter ≡ f.cert.exporter) × ((inlet_name (host_plan plan (conn_plan plan k).host) i).lane ≡ f.cert.lane) = inlet_found (host_plan plan (conn_plan plan k).host) f.cert i f.inlet in
             let by : f.cert.exporter ≡ (lane_plan (host_plan plan hi.host) hi.lane).cert.exporter = sym (hi.by ∙ found.0) in
             let u : (h : ℕ) × (l : ℕ) × IsLane plan h l × (f.cert ≡ (lane_plan (host_plan plan h) l).cert) = sound.unforged.certs k y f.cert there q f.read f.begun (subst (IsTrusted trusted plan) (sym by) (fits.by hi.host hi.lane hi.high)) in
             let same : (u.0 ≡ hi.host) × (u.1 ≡ hi.lane) = fits.lanes hi.host hi.lane u.0 u.1 hi.high u.2 (ap (λ z. z.exporter) (sym u.3) ∙ by) (ap (λ z. z.lane) (sym u.3) ∙ sym (hi.number ∙ found.1)) in
             sound.unforged.frames k y f.cert f.place f.number f.messages there q f.read f.frame (omega (arith, f.next)) hi.host hi.lane hi.high
             (ap (λ z. z.key) u.3 ∙ ap₂ (λ a b. (lane_plan (host_plan plan a) b).cert.key) same.0 same.1)
         low_number (OfLane h l) i n fresh stale q low f hi =
-            let own : f.cert ≡ (lane_plan (host_plan plan h) l).cert = own_peer h l (fits.real k h l q) (host_plan plan (wire plan k).host) y f.cert f.read in
-            let found : ((inlet_name (host_plan plan (wire plan k).host) i).exporter ≡ f.cert.exporter) × ((inlet_name (host_plan plan (wire plan k).host) i).lane ≡ f.cert.lane) = inlet_found (host_plan plan (wire plan k).host) f.cert i f.inlet in
+            let own : f.cert ≡ (lane_plan (host_plan plan h) l).cert = own_peer h l (fits.real k h l q) (host_plan plan (conn_plan plan k).host) y f.cert f.read in
+            let found : ((inlet_name (host_plan plan (conn_plan plan k).host) i).exporter ≡ f.cert.exporter) × ((inlet_name (host_plan plan (conn_plan plan k).host) i).lane ≡ f.cert.lane) = inlet_found (host_plan plan (conn_plan plan k).host) f.cert i f.inlet in
             let same : (h ≡ hi.host) × (l ≡ hi.lane) = fits.lanes hi.host hi.lane h l hi.high (fits.real k h l q) (ap (λ z. z.exporter) (sym own) ∙ sym (hi.by ∙ found.0)) (ap (λ z. z.lane) (sym own) ∙ sym (hi.number ∙ found.1)) in
-            not_both (high_source c trusted plan (wire plan k).host (OfLane h l)) (and_both _ _ (ap₂ (λ a b. high_lane c trusted plan a b) same.0 same.1 ∙ hi.high) hi.here) low
+            not_both (high_source c trusted plan (conn_plan plan k).host (OfLane h l)) (and_both _ _ (ap₂ (λ a b. high_lane c trusted plan a b) same.0 same.1 ∙ hi.high) hi.here) low
 
-        seen_facts : (source : Source) (a : ConnAsk) → (wire plan k).source ≡ source → high_source c trusted plan (wire plan k).host source ≡ false → ConnFacts s (host_plan plan (wire plan k).host) y (arrived w source y) a → SeenAsk c trusted plan (wire plan k).host a
-        seen_facts source Quiet q low f = tt
-        seen_facts source (Become next) q low f = tt
-        seen_facts source (Number i n fresh stale) q low f = low_number source i n fresh stale q low f
-        seen_facts source (JudgeOne cert m rest) q low f = tt
-        seen_facts source (Hand b m next) q low f = tt
+        seen_facts : (source : Source) (a : ConnAsk) → (conn_plan plan k).source ≡ source → high_source c trusted plan (conn_plan plan k).host source ≡ false → ConnFacts s (host_plan plan (conn_plan plan k).host) y (arrived w source y) a → SeenAsk c trusted plan (conn_plan plan k).host a
+        seen_facts source ConnWaits q low f = tt
+        seen_facts source (ConnInternal next) q low f = tt
+        seen_facts source (AsksInlet i n fresh stale) q low f = low_number source i n fresh stale q low f
+        seen_facts source (AsksArrival cert m rest) q low f = tt
+        seen_facts source (PutsPassed b m next) q low f = tt
 
   -- an event with mark High leaves all that isn't High
 
   module _ (is : IsScheme s plan) (secret : is_secrecy c.kind ≡ true) (fits : Setting c trusted plan) (w : World) (kept : Kept s c trusted plan w) where
-    quiet_step_conn : (k : ℕ) (asks : Conn → ConnAsk) → ((y : Conn) → ConnFacts s (host_plan plan (wire plan k).host) y (arrived w (wire plan k).source y) (asks y)) → high_conn c trusted plan k ≡ true →
-        (o : Option Host) (q : Option Conn) → slice_get w.hosts (wire plan k).host ≡ o → slice_get w.conns k ≡ q → AlikeWorlds c trusted plan w (step_conn s plan w (wire plan k).host k asks o q)
-    quiet_step_conn k asks facts high (Some x) (Some y) there there' = quiet_ends w (wire plan k).host k x _ there high
-        (quiet_conn s c trusted plan (wire plan k).host x y (asks y) (quiet_facts is w kept fits k y there' (wire plan k).source (asks y) refl high high (facts y)))
+    quiet_step_conn : (k : ℕ) (asks : Conn → ConnAsk) → ((y : Conn) → ConnFacts s (host_plan plan (conn_plan plan k).host) y (arrived w (conn_plan plan k).source y) (asks y)) → high_conn c trusted plan k ≡ true →
+        (o : Option Host) (q : Option Conn) → slice_get w.hosts (conn_plan plan k).host ≡ o → slice_get w.conns k ≡ q → AlikeWorlds c trusted plan w (step_conn s plan w (conn_plan plan k).host k asks o q)
+    quiet_step_conn k asks facts high (Some x) (Some y) there there' = quiet_ends w (conn_plan plan k).host k x _ there high
+        (quiet_conn s c trusted plan (conn_plan plan k).host x y (asks y) (quiet_facts is w kept fits k y there' (conn_plan plan k).source (asks y) refl high high (facts y)))
     quiet_step_conn k asks facts high None q there there' = self_worlds w
     quiet_step_conn k asks facts high (Some x) None there there' = self_worlds w
 
@@ -187,8 +187,8 @@ module _ (s : Scheme) (c : Category) (trusted : List ℕ) (plan : Plan) where
     quiet_event (Step h p) m = quiet_on_host w h _ (λ x there. quiet_step s c secret trusted plan h x p (slice_get x.procs p) refl (kept.hosts h x there).hands (subst (λ o. mark_proc c (is_in trusted h) (host_plan plan h) h p (proc_in o p) ≡ High) there m))
     quiet_event (Frame h l) m = quiet_on_host w h _ (λ x there. quiet_lane s c trusted plan h x l (slice_get x.workers l) refl (kept.hosts h x there).idle (high_or_high _ _ m))
     quiet_event (Arrive k n) m = quiet_on_conn w k _ (high_or_high _ _ m)
-    quiet_event (Accept k) m = quiet_step_conn k _ (λ y. accept_facts s (host_plan plan (wire plan k).host) y (arrived w (wire plan k).source y)) (high_or_high _ _ m) _ _ refl refl
-    quiet_event (Deliver k) m = quiet_step_conn k _ (λ y. deliver_facts s (host_plan plan (wire plan k).host) y (arrived w (wire plan k).source y)) (high_or_high _ _ m) _ _ refl refl
+    quiet_event (Accept k) m = quiet_step_conn k _ (λ y. accept_facts s (host_plan plan (conn_plan plan k).host) y (arrived w (conn_plan plan k).source y)) (high_or_high _ _ m) _ _ refl refl
+    quiet_event (Deliver k) m = quiet_step_conn k _ (λ y. deliver_facts s (host_plan plan (conn_plan plan k).host) y (arrived w (conn_plan plan k).source y)) (high_or_high _ _ m) _ _ refl refl
     quiet_event (Tick h t) m = absurd (grind arith)
     quiet_event (Inject k bytes) m = absurd (grind arith)
     quiet_event (Copy k j from until) m = absurd (grind arith)
@@ -196,7 +196,7 @@ module _ (s : Scheme) (c : Category) (trusted : List ℕ) (plan : Plan) where
   -- an event that isn't High, on both sides
 
   module _ (is : IsScheme s plan) (secret : is_secrecy c.kind ≡ true) (fits : Setting c trusted plan) (v w : World) (alike : AlikeWorlds c trusted plan v w) where
-    same_sender : (k h l : ℕ) (o q : Option Host) → AlikeAt c trusted plan h o q → (wire plan k).source ≡ OfLane h l → high_source c trusted plan (wire plan k).host (OfLane h l) ≡ false → worker_at o l ≡ worker_at q l
+    same_sender : (k h l : ℕ) (o q : Option Host) → AlikeAt c trusted plan h o q → (conn_plan plan k).source ≡ OfLane h l → high_source c trusted plan (conn_plan plan k).host (OfLane h l) ≡ false → worker_at o l ≡ worker_at q l
     same_sender k h l None None r e low = refl
     same_sender k h l None (Some y) r e low = absurd r
     same_sender k h l (Some x) None r e low = absurd r
@@ -204,9 +204,9 @@ module _ (s : Scheme) (c : Category) (trusted : List ℕ) (plan : Plan) where
       where
         go : (slice_get x.workers l ≡ slice_get y.workers l) ⊎ Hidden c trusted plan h l → slice_get x.workers l ≡ slice_get y.workers l
         go (inl i) = i
-        go (inr hidden) = absurd (not_both (high_source c trusted plan (wire plan k).host (OfLane h l)) (and_both _ _ hidden.high (fits.outsiders k h l e (subst (IsTrusted trusted plan) (sym (fits.ends k h l e)) hidden.to))) low)
+        go (inr hidden) = absurd (not_both (high_source c trusted plan (conn_plan plan k).host (OfLane h l)) (and_both _ _ hidden.high (fits.outsiders k h l e (subst (IsTrusted trusted plan) (sym (fits.ends k h l e)) hidden.to))) low)
 
-    pub same_stream : (k : ℕ) (source : Source) (y : Conn) → (wire plan k).source ≡ source → high_source c trusted plan (wire plan k).host source ≡ false → stream_of v source y ≡ stream_of w source y
+    pub same_stream : (k : ℕ) (source : Source) (y : Conn) → (conn_plan plan k).source ≡ source → high_source c trusted plan (conn_plan plan k).host source ≡ false → stream_of v source y ≡ stream_of w source y
     same_stream k Link y e low = refl
     same_stream k (OfLane h l) y e low = ap stream_from (same_sender k h l (slice_get v.hosts h) (slice_get w.hosts h) (alike.hosts h) e low)
 
@@ -222,14 +222,14 @@ module _ (s : Scheme) (c : Category) (trusted : List ℕ) (plan : Plan) where
     map_same f g (Some x) q h e = ap Some (h x) ∙ ap (option_map g) e
 
     module _ (kept : Kept s c trusted plan v) (sound : Sound s c trusted plan v) where
-      same_step_conn : (k : ℕ) (asks asks' : Conn → ConnAsk) → ((y : Conn) → asks y ≡ asks' y) → ((y : Conn) → ConnFacts s (host_plan plan (wire plan k).host) y (arrived v (wire plan k).source y) (asks y)) → high_conn c trusted plan k ≡ false →
-          (o o' : Option Host) (q : Option Conn) → slice_get v.hosts (wire plan k).host ≡ o → slice_get w.hosts (wire plan k).host ≡ o' → AlikeAt c trusted plan (wire plan k).host o o' → slice_get v.conns k ≡ q → slice_get w.conns k ≡ q →
-          AlikeWorlds c trusted plan (step_conn s plan v (wire plan k).host k asks o q) (step_conn s plan w (wire plan k).host k asks' o' q)
+      same_step_conn : (k : ℕ) (asks asks' : Conn → ConnAsk) → ((y : Conn) → asks y ≡ asks' y) → ((y : Conn) → ConnFacts s (host_plan plan (conn_plan plan k).host) y (arrived v (conn_plan plan k).source y) (asks y)) → high_conn c trusted plan k ≡ false →
+          (o o' : Option Host) (q : Option Conn) → slice_get v.hosts (conn_plan plan k).host ≡ o → slice_get w.hosts (conn_plan plan k).host ≡ o' → AlikeAt c trusted plan (conn_plan plan k).host o o' → slice_get v.conns k ≡ q → slice_get w.conns k ≡ q →
+          AlikeWorlds c trusted plan (step_conn s plan v (conn_plan plan k).host k asks o q) (step_conn s plan w (conn_plan plan k).host k asks' o' q)
       same_step_conn k asks asks' same facts low (Some x) (Some x') (Some y) there there' r q q' =
-          subst (λ a. AlikeWorlds c trusted plan (with_ends v (wire plan k).host k (perform_conn s (host_plan plan (wire plan k).host) x y (asks y))) (with_ends w (wire plan k).host k (perform_conn s (host_plan plan (wire plan k).host) x' y a))) (same y)
-          (let seen : SeenAsk c trusted plan (wire plan k).host (asks y) = seen_facts is v kept fits k y q sound (wire plan k).source (asks y) refl low (facts y) in
-          both_ends v w alike (wire plan k).host k x x' (perform_conn s (host_plan plan (wire plan k).host) x y (asks y)) (perform_conn s (host_plan plan (wire plan k).host) x' y (asks y)) there there' (q ∙ sym q')
-          (same_host s c trusted plan (wire plan k).host x x' r y (asks y) seen) (same_conn s c trusted plan (wire plan k).host x x' r y (asks y) seen))
+          subst (λ a. AlikeWorlds c trusted plan (with_ends v (conn_plan plan k).host k (perform_conn s (host_plan plan (conn_plan plan k).host) x y (asks y))) (with_ends w (conn_plan plan k).host k (perform_conn s (host_plan plan (conn_plan plan k).host) x' y a))) (same y)
+          (let seen : SeenAsk c trusted plan (conn_plan plan k).host (asks y) = seen_facts is v kept fits k y q sound (conn_plan plan k).source (asks y) refl low (facts y) in
+          both_ends v w alike (conn_plan plan k).host k x x' (perform_conn s (host_plan plan (conn_plan plan k).host) x y (asks y)) (perform_conn s (host_plan plan (conn_plan plan k).host) x' y (asks y)) there there' (q ∙ sym q')
+          (same_host s c trusted plan (conn_plan plan k).host x x' r y (asks y) seen) (same_conn s c trusted plan (conn_plan plan k).host x x' r y (asks y) seen))
       same_step_conn k asks asks' same facts low None None (Some y) there there' r q q' = alike
       same_step_conn k asks asks' same facts low None (Some x') (Some y) there there' r q q' = absurd r
       same_step_conn k asks asks' same facts low (Some x) None (Some y) there there' r q q' = absurd r
@@ -238,11 +238,11 @@ module _ (s : Scheme) (c : Category) (trusted : List ℕ) (plan : Plan) where
       same_step_conn k asks asks' same facts low (Some x) None None there there' r q q' = alike
       same_step_conn k asks asks' same facts low (Some x) (Some x') None there there' r q q' = alike
 
-      conn_event : (k : ℕ) (asks asks' : Conn → ConnAsk) → ((y : Conn) → asks y ≡ asks' y) → ((y : Conn) → ConnFacts s (host_plan plan (wire plan k).host) y (arrived v (wire plan k).source y) (asks y)) → high_conn c trusted plan k ≡ false →
-          AlikeWorlds c trusted plan (step_conn s plan v (wire plan k).host k asks (slice_get v.hosts (wire plan k).host) (slice_get v.conns k)) (step_conn s plan w (wire plan k).host k asks' (slice_get w.hosts (wire plan k).host) (slice_get w.conns k))
+      conn_event : (k : ℕ) (asks asks' : Conn → ConnAsk) → ((y : Conn) → asks y ≡ asks' y) → ((y : Conn) → ConnFacts s (host_plan plan (conn_plan plan k).host) y (arrived v (conn_plan plan k).source y) (asks y)) → high_conn c trusted plan k ≡ false →
+          AlikeWorlds c trusted plan (step_conn s plan v (conn_plan plan k).host k asks (slice_get v.hosts (conn_plan plan k).host) (slice_get v.conns k)) (step_conn s plan w (conn_plan plan k).host k asks' (slice_get w.hosts (conn_plan plan k).host) (slice_get w.conns k))
       conn_event k asks asks' same facts low =
-          subst (λ q. AlikeWorlds c trusted plan (step_conn s plan v (wire plan k).host k asks (slice_get v.hosts (wire plan k).host) (slice_get v.conns k)) (step_conn s plan w (wire plan k).host k asks' (slice_get w.hosts (wire plan k).host) q)) (same_conns k low)
-          (same_step_conn k asks asks' same facts low (slice_get v.hosts (wire plan k).host) (slice_get w.hosts (wire plan k).host) (slice_get v.conns k) refl refl (alike.hosts (wire plan k).host) refl (sym (same_conns k low)))
+          subst (λ q. AlikeWorlds c trusted plan (step_conn s plan v (conn_plan plan k).host k asks (slice_get v.hosts (conn_plan plan k).host) (slice_get v.conns k)) (step_conn s plan w (conn_plan plan k).host k asks' (slice_get w.hosts (conn_plan plan k).host) q)) (same_conns k low)
+          (same_step_conn k asks asks' same facts low (slice_get v.hosts (conn_plan plan k).host) (slice_get w.hosts (conn_plan plan k).host) (slice_get v.conns k) refl refl (alike.hosts (conn_plan plan k).host) refl (sym (same_conns k low)))
 
       step_event : (h p : ℕ) → mark_of c trusted plan v (Step h p) ≡ mark_of c trusted plan w (Step h p) → mark_of c trusted plan v (Step h p) ≢ High → AlikeWorlds c trusted plan (happens s plan v (Step h p)) (happens s plan w (Step h p))
       step_event h p eq low = both_on_host v w alike h _ _ (λ x y there there' r. same_step s c secret trusted plan h x y r p (slice_get x.procs p) (slice_get y.procs p) refl refl (r.procs p)
@@ -256,15 +256,15 @@ module _ (s : Scheme) (c : Category) (trusted : List ℕ) (plan : Plan) where
           seen_sender : {X : Type 0} {a b : X} → high_lane c trusted plan h l ≡ false → (a ≡ b) ⊎ Hidden c trusted plan h l → a ≡ b
           seen_sender q (inl i) = i
           seen_sender q (inr hidden) = absurd (not_both (high_lane c trusted plan h l) hidden.high q)
-      same_event (Arrive k n) eq low = both_on_conn v w alike k _ _ (λ e. map_same _ _ _ _ (λ y. ap (λ bytes. arrive bytes n y) (same_stream k (wire plan k).source y refl (high_or_low _ _ low))) e)
-      same_event (Accept k) eq low = conn_event k _ _ (λ y. ap (λ bytes. accept s (host_plan plan (wire plan k).host) y (take y.count bytes)) (same_stream k (wire plan k).source y refl (high_or_low _ _ low)))
-          (λ y. accept_facts s (host_plan plan (wire plan k).host) y (arrived v (wire plan k).source y)) (high_or_low _ _ low)
-      same_event (Deliver k) eq low = conn_event k _ _ (λ y. ap (λ bytes. deliver s (host_plan plan (wire plan k).host) y (take y.count bytes)) (same_stream k (wire plan k).source y refl (high_or_low _ _ low)))
-          (λ y. deliver_facts s (host_plan plan (wire plan k).host) y (arrived v (wire plan k).source y)) (high_or_low _ _ low)
+      same_event (Arrive k n) eq low = both_on_conn v w alike k _ _ (λ e. map_same _ _ _ _ (λ y. ap (λ bytes. arrive bytes n y) (same_stream k (conn_plan plan k).source y refl (high_or_low _ _ low))) e)
+      same_event (Accept k) eq low = conn_event k _ _ (λ y. ap (λ bytes. accept s (host_plan plan (conn_plan plan k).host) y (take y.count bytes)) (same_stream k (conn_plan plan k).source y refl (high_or_low _ _ low)))
+          (λ y. accept_facts s (host_plan plan (conn_plan plan k).host) y (arrived v (conn_plan plan k).source y)) (high_or_low _ _ low)
+      same_event (Deliver k) eq low = conn_event k _ _ (λ y. ap (λ bytes. deliver s (host_plan plan (conn_plan plan k).host) y (take y.count bytes)) (same_stream k (conn_plan plan k).source y refl (high_or_low _ _ low)))
+          (λ y. deliver_facts s (host_plan plan (conn_plan plan k).host) y (arrived v (conn_plan plan k).source y)) (high_or_low _ _ low)
       same_event (Tick h t) eq low = both_on_host v w alike h (ticked (host_plan plan h) t) (ticked (host_plan plan h) t) (λ x y there there' r. tick (host_plan plan h).silent x y r)
         where
           tick : (z : Bool) (x y : Host) → AlikeHosts c trusted plan h x y → AlikeHosts c trusted plan h (if z then x else record x { desk = desk_after (host_plan plan h).key (Ticked t) x.desk }) (if z then y else record y { desk = desk_after (host_plan plan h).key (Ticked t) y.desk })
           tick true x y r = r
           tick false x y r = record { desk = ap (desk_after (host_plan plan h).key (Ticked t)) r.desk; procs = r.procs; boxes = r.boxes; queues = r.queues; workers = r.workers; logs = r.logs; inlets = r.inlets }
-      same_event (Inject k bytes) eq low = both_on_conn v w alike k _ _ (λ e. ap (option_map (injected (wire plan k).source bytes)) e)
+      same_event (Inject k bytes) eq low = both_on_conn v w alike k _ _ (λ e. ap (option_map (injected (conn_plan plan k).source bytes)) e)
       same_event (Copy k j from until) eq low = alike

@@ -4,15 +4,15 @@ use Rattle.std.specs.Prelude.{Contains}
 use Rattle.std.specs.List.{list_all}
 use Rattle.ds_cert.specs.declared.delegation.Delegation.{Delegation}
 use Rattle.ds_script.specs.declared.op.Op.{Op}
-use Rattle.ds_model.specs.Plan.{IsHost, IsLane, OfLane, wire, host_plan}
+use Rattle.ds_model.specs.Plan.{IsHost, IsLane, OfLane, conn_plan, host_plan}
 use Rattle.ds_model.specs.World.{Process, Queue, Worker, Host, World}
 use Rattle.ds_model.specs.Step.{Event, step}
-use Rattle.ds_model.specs.SmallWorlds.{empty_scheme, a_secret}
+use Rattle.ds_model.specs.Examples.OneHost.{empty_scheme, a_secret}
 use Rattle.ds_noninterference.specs.High.{is_in, high_at, IsTrusted}
-use Rattle.ds_noninterference.specs.Marks.{Along}
+use Rattle.ds_noninterference.specs.Observations.{Along}
 use Rattle.ds_noninterference.specs.Alike.{Alike, AlikeAt, AlikeWorlds}
 use Rattle.ds_noninterference.specs.Premises.{IsScheme, Fits, AtStart, Obeys, Unforged, NothingForged, IssuesInside}
-use Rattle.ds_noninterference.specs.Example.{pair, pair_world, first_script, second_script, first_events, second_events, process, taking, IsMet}
+use Rattle.ds_noninterference.specs.Example.{pair, pair_world, first_script, second_script, first_events, second_events, process, taking, PremisesHold}
 use Rattle.ds_noninterference.proofs.Flow.{and_left, and_right}
 
 none_some : {X : Type 0} (x : X) → None ≡ Some x → ⊥
@@ -78,7 +78,7 @@ no_lane_of : (h l : ℕ) → IsLane pair h l → ⊥
 no_lane_of zero l is = grind arith
 no_lane_of (suc h) l is = grind arith
 
-no_source : (k h l : ℕ) → (wire pair k).source ≡ OfLane h l → ⊥
+no_source : (k h l : ℕ) → (conn_plan pair k).source ≡ OfLane h l → ⊥
 no_source zero h l e = grind arith
 no_source (suc k) h l e = grind arith
 
@@ -131,7 +131,7 @@ alike_at (suc h) = tt
 alike : AlikeWorlds a_secret (0 ∷ []) pair (pair_world first_script) (pair_world second_script)
 alike = record { hosts = alike_at; conns = λ k. inl refl }
 
-pub met : IsMet
+pub met : PremisesHold
 unfolding always unissued is_none Rattle.ds_label.specs.Flow.flows Rattle.ds_label.specs.Flow.union
 met = record {
   scheme = scheme;

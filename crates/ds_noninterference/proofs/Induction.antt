@@ -5,11 +5,11 @@ use Rattle.ds_label.specs.Names.{is_secrecy}
 use Rattle.ds_model.specs.Scheme.{Scheme}
 use Rattle.ds_model.specs.Plan.{HostPlan, Plan, host_plan}
 use Rattle.ds_model.specs.World.{Process, World}
-use Rattle.ds_model.specs.Asking.{ask}
+use Rattle.ds_model.specs.ProcessStep.{ask}
 use Rattle.ds_model.specs.Step.{Event, Step, Frame, Arrive, Accept, Deliver, Tick, Inject, Copy, resolve, happens, step, run}
 use Rattle.ds_model.specs.Views.{proc_in}
 use Rattle.ds_noninterference.specs.High.{is_in, high_proc}
-use Rattle.ds_noninterference.specs.Marks.{Released, Mark, Release, High, Low, released, mark_released, mark_proc, high_or, mark_of, mark, unless_high, marks, Along}
+use Rattle.ds_noninterference.specs.Observations.{Released, Mark, Release, High, Low, released, mark_released, mark_proc, high_or, mark_of, mark, unless_high, marks, Along}
 use Rattle.ds_noninterference.specs.Alike.{AlikeWorlds}
 use Rattle.ds_noninterference.specs.Premises.{IsScheme, AtStart}
 use Rattle.ds_noninterference.proofs.Kept.{Kept}

@@ -12,12 +12,12 @@ use Rattle.ds_model.specs.Lists.{at}
 use Rattle.ds_model.specs.FirstRule.{unless, each_secret}
 use Rattle.ds_model.specs.ProcessRules.{can_grant}
 use Rattle.ds_model.specs.Scheme.{Scheme}
-use Rattle.ds_model.specs.Plan.{Plan, host_plan, wire, box_plan, lane_plan}
+use Rattle.ds_model.specs.Plan.{Plan, host_plan, conn_plan, box_plan, lane_plan}
 use Rattle.ds_model.specs.Lane.{admit, lifted}
 use Rattle.ds_model.specs.Desk.{Act, Reply, act_entry, reply_of}
 use Rattle.ds_model.specs.World.{Process, Mail, Waiting, Queue, Worker, Conn, Host, World, Passed}
-use Rattle.ds_model.specs.Asking.{Ask, Stay, Alone, Put, Admit, TakeFrom, Do, Judge, box_of, ask, told_taken, told_act, told_judged}
-use Rattle.ds_model.specs.LaneWork.{LaneAsk, Wait, Lift, Check, lane_ask, told_lifted, told_checked, with_frame}
+use Rattle.ds_model.specs.ProcessStep.{Ask, Waits, Internal, Put, Admit, TakeFrom, PublicAct, AsksJudgement, box_of, ask, taken_after_reply, act_after_reply, judged_after_reply}
+use Rattle.ds_model.specs.WorkerStep.{LaneAsk, WorkerWaits, Lifts, AsksRecheck, lane_ask, lifted_after_reply, checked_after_reply, with_frame}
 use Rattle.ds_model.specs.Step.{oldest_in, judged, attached, perform, step_proc, front_of, perform_lane, step_lane}
 use Rattle.ds_noninterference.specs.High.{is_in, high_lane, high_conn, trusted_key, IsTrusted}
 use Rattle.ds_noninterference.specs.Premises.{IsScheme}
@@ -35,7 +35,7 @@ pub record KeptHost (s : Scheme) (c : Category) (trusted : List ℕ) (plan : Pla
 
 -- what a High connection passed is for a High mailbox
 abbrev pub KeptConn : Category → List ℕ → Plan → ℕ → Conn → Type 0
-KeptConn c trusted plan k y = high_conn c trusted plan k ≡ true → (m : Passed) (b : ℕ) → y.passed ≡ Some m → box_of (host_plan plan (wire plan k).host) m.slot ≡ Some b → has by_name c (box_plan (host_plan plan (wire plan k).host) b).label ≡ true
+KeptConn c trusted plan k y = high_conn c trusted plan k ≡ true → (m : Passed) (b : ℕ) → y.passed ≡ Some m → box_of (host_plan plan (conn_plan plan k).host) m.slot ≡ Some b → has by_name c (box_plan (host_plan plan (conn_plan plan k).host) b).label ≡ true
 
 pub record Kept (s : Scheme) (c : Category) (trusted : List ℕ) (plan : Plan) (w : World) : Type 0 where
   pub hosts : (h : ℕ) (x : Host) → slice_get w.hosts h ≡ Some x → KeptHost s c trusted plan h x
@@ -81,7 +81,7 @@ module _ (s : Scheme) (c : Category) (secret : is_secrecy c.kind ≡ true) (trus
     judged_peer : (m : Message) → judged s (host_plan plan h) x.desk m ≡ None → each_secret by_name (λ d. s.holds x.desk.store x.desk.moment d m.to) PeerNotTrusted m.label ≡ None
     judged_peer m e = (first_none _ _ (first_none _ _ (first_none _ _ (first_none _ _ e).1).0).1).0
 
-    judged_safe : (m : Message) (certs : List (List ℕ)) (o : Option Rule) (z : Process) → judged s (host_plan plan h) x.desk m ≡ o → SafeHand c trusted plan z.hand → SafeHand c trusted plan (told_judged m certs o z).hand
+    judged_safe : (m : Message) (certs : List (List ℕ)) (o : Option Rule) (z : Process) → judged s (host_plan plan h) x.desk m ≡ o → SafeHand c trusted plan z.hand → SafeHand c trusted plan (judged_after_reply m certs o z).hand
     judged_safe m certs (Some rule) z e old = old
     judged_safe m certs None z e old = λ m' q has_c.
         let same : record m { certs = certs } ≡ m' = cc in
@@ -96,11 +96,11 @@ module _ (s : Scheme) (c : Category) (secret : is_secrecy c.kind ≡ true) (trus
         go (inl e) m q = old m (sym e ∙ q)
         go (inr e) m q = absurd (grind arith)
 
-    taken_safe : (r slot : ℕ) (o : Option (Mail Category)) (z : Process) → SafeHand c trusted plan z.hand → SafeHand c trusted plan (told_taken r slot o z).hand
+    taken_safe : (r slot : ℕ) (o : Option (Mail Category)) (z : Process) → SafeHand c trusted plan z.hand → SafeHand c trusted plan (taken_after_reply r slot o z).hand
     taken_safe r slot None z old = old
     taken_safe r slot (Some m) z old = cond_case (λ z'. SafeHand c trusted plan z'.hand) (can_grant by_name z.own z.clear m.own m.clear) (record z { own = union by_name z.own m.own; clear = union by_name z.clear m.clear }) z (λ _. old) (λ _. old)
 
-    act_safe : (r g : ℕ) (a : Act) (o : Reply) (z : Process) → SafeHand c trusted plan z.hand → SafeHand c trusted plan (told_act r g a o z).hand
+    act_safe : (r g : ℕ) (a : Act) (o : Reply) (z : Process) → SafeHand c trusted plan z.hand → SafeHand c trusted plan (act_after_reply r g a o z).hand
     act_safe r g a o z old = old
 
     -- the processes after a change of one of them
@@ -128,17 +128,17 @@ module _ (s : Scheme) (c : Category) (secret : is_secrecy c.kind ≡ true) (trus
     -- the host after a process's step
 
     keep_ask : KeptHost s c trusted plan h x → (p : ℕ) (y : Process) (a : Ask) → slice_get x.procs p ≡ Some y → AskFacts (host_plan plan h) p y a → KeptHost s c trusted plan h (perform s (host_plan plan h) x p a)
-    keep_ask kept p y Stay e f = kept
-    keep_ask kept p y (Alone next) e f = record { hands = hands_at p (λ _. next) kept.hands (next_safe p y next e f); idle = λ l u v. record { waiting = (kept.idle l u v).waiting; hand = (kept.idle l u v).hand }; streams = kept.streams }
+    keep_ask kept p y Waits e f = kept
+    keep_ask kept p y (Internal next) e f = record { hands = hands_at p (λ _. next) kept.hands (next_safe p y next e f); idle = λ l u v. record { waiting = (kept.idle l u v).waiting; hand = (kept.idle l u v).hand }; streams = kept.streams }
     keep_ask kept p y (Put b m next) e f = record { hands = hands_at p (λ _. next) kept.hands (next_safe p y next e f.0); idle = λ l u v. record { waiting = (kept.idle l u v).waiting; hand = (kept.idle l u v).hand }; streams = kept.streams }
     keep_ask kept p y (Admit l m next) e f = record {
       hands = hands_at p (λ _. next) kept.hands (next_safe p y next e f.0);
       idle = λ j u v. record { waiting = admit_idle p l y m (admit (lane_plan (host_plan plan h) l).room (record { sender = p; message = m })) kept e f.1 f.2 f.3 j u v; hand = (kept.idle j u v).hand };
       streams = kept.streams;
     }
-    keep_ask kept p y (TakeFrom b r slot) e f = record { hands = hands_at p (told_taken r slot (oldest_in (slice_get x.boxes b))) kept.hands (λ z t e' old. taken_safe r slot (oldest_in (slice_get x.boxes b)) z old); idle = λ l u v. record { waiting = (kept.idle l u v).waiting; hand = (kept.idle l u v).hand }; streams = kept.streams }
-    keep_ask kept p y (Do a r g) e f = record { hands = hands_at p (told_act r g a (reply_of s (host_plan plan h) x.desk (act_entry s (host_plan plan h) x.desk a))) kept.hands (λ z t e' old. act_safe r g a (reply_of s (host_plan plan h) x.desk (act_entry s (host_plan plan h) x.desk a)) z old); idle = λ l u v. record { waiting = (kept.idle l u v).waiting; hand = (kept.idle l u v).hand }; streams = kept.streams }
-    keep_ask kept p y (Judge m) e f = record { hands = hands_at p (told_judged m (attached s (host_plan plan h) x.desk m) (judged s (host_plan plan h) x.desk m)) kept.hands (λ z t e' old. judged_safe m (attached s (host_plan plan h) x.desk m) (judged s (host_plan plan h) x.desk m) z refl old); idle = λ l u v. record { waiting = (kept.idle l u v).waiting; hand = (kept.idle l u v).hand }; streams = kept.streams }
+    keep_ask kept p y (TakeFrom b r slot) e f = record { hands = hands_at p (taken_after_reply r slot (oldest_in (slice_get x.boxes b))) kept.hands (λ z t e' old. taken_safe r slot (oldest_in (slice_get x.boxes b)) z old); idle = λ l u v. record { waiting = (kept.idle l u v).waiting; hand = (kept.idle l u v).hand }; streams = kept.streams }
+    keep_ask kept p y (PublicAct a r g) e f = record { hands = hands_at p (act_after_reply r g a (reply_of s (host_plan plan h) x.desk (act_entry s (host_plan plan h) x.desk a))) kept.hands (λ z t e' old. act_safe r g a (reply_of s (host_plan plan h) x.desk (act_entry s (host_plan plan h) x.desk a)) z old); idle = λ l u v. record { waiting = (kept.idle l u v).waiting; hand = (kept.idle l u v).hand }; streams = kept.streams }
+    keep_ask kept p y (AsksJudgement m) e f = record { hands = hands_at p (judged_after_reply m (attached s (host_plan plan h) x.desk m) (judged s (host_plan plan h) x.desk m)) kept.hands (λ z t e' old. judged_safe m (attached s (host_plan plan h) x.desk m) (judged s (host_plan plan h) x.desk m) z refl old); idle = λ l u v. record { waiting = (kept.idle l u v).waiting; hand = (kept.idle l u v).hand }; streams = kept.streams }
 
     pub keep_proc : KeptHost s c trusted plan h x → (p : ℕ) (o : Option Process) → slice_get x.procs p ≡ o → KeptHost s c trusted plan h (step_proc s (host_plan plan h) x p o)
     keep_proc kept p None e = kept
@@ -159,22 +159,22 @@ module _ (s : Scheme) (c : Category) (secret : is_secrecy c.kind ≡ true) (trus
     checked_hand l e (m ∷ ms) = refl
 
     keep_lane_ask : KeptHost s c trusted plan h x → (l : ℕ) (a : LaneAsk) → KeptHost s c trusted plan h (perform_lane s (host_plan plan h) x l a)
-    keep_lane_ask kept l Wait = kept
-    keep_lane_ask kept l Lift = record {
+    keep_lane_ask kept l WorkerWaits = kept
+    keep_lane_ask kept l Lifts = record {
       hands = kept.hands;
       idle = λ j u v. record {
         waiting = λ q0 e0. all_at (λ j' q. high_lane c trusted plan h j' ≡ true → trusted_key trusted plan (lane_plan (host_plan plan h) j').cert.receiver ≡ false → q ≡ []) l lifted x.queues (λ j' q n e u' v'. (kept.idle j' u' v').waiting q e) (λ q e u' v'. (lifted_idle q ((kept.idle l u' v').waiting q e)) ∙ (kept.idle l u' v').waiting q e) j q0 e0 u v;
-        hand = λ q0 e0. all_at (λ j' e. high_lane c trusted plan h j' ≡ true → trusted_key trusted plan (lane_plan (host_plan plan h) j').cert.receiver ≡ false → e.hand ≡ []) l (told_lifted (front_of (slice_get x.queues l))) x.workers (λ j' e n q u' v'. (kept.idle j' u' v').hand e q) (λ e q u' v'. front_none (slice_get x.queues l) (kept.idle l u' v').waiting) j q0 e0 u v;
+        hand = λ q0 e0. all_at (λ j' e. high_lane c trusted plan h j' ≡ true → trusted_key trusted plan (lane_plan (host_plan plan h) j').cert.receiver ≡ false → e.hand ≡ []) l (lifted_after_reply (front_of (slice_get x.queues l))) x.workers (λ j' e n q u' v'. (kept.idle j' u' v').hand e q) (λ e q u' v'. front_none (slice_get x.queues l) (kept.idle l u' v').waiting) j q0 e0 u v;
       };
-      streams = all_at (λ j e. (rest : List ℕ) × (e.stream ≡ s.hello (lane_plan (host_plan plan h) j).cert ++ rest)) l (told_lifted (front_of (slice_get x.queues l))) x.workers (λ j e n q. kept.streams j e q) (λ e q. kept.streams l e q);
+      streams = all_at (λ j e. (rest : List ℕ) × (e.stream ≡ s.hello (lane_plan (host_plan plan h) j).cert ++ rest)) l (lifted_after_reply (front_of (slice_get x.queues l))) x.workers (λ j e n q. kept.streams j e q) (λ e q. kept.streams l e q);
     }
-    keep_lane_ask kept l Check = record {
+    keep_lane_ask kept l AsksRecheck = record {
       hands = kept.hands;
       idle = λ j u v. record {
         waiting = (kept.idle j u v).waiting;
-        hand = λ q0 e0. all_at (λ j' e. high_lane c trusted plan h j' ≡ true → trusted_key trusted plan (lane_plan (host_plan plan h) j').cert.receiver ≡ false → e.hand ≡ []) l (told_checked s (lane_plan (host_plan plan h) l) x.desk) x.workers (λ j' e n q u' v'. (kept.idle j' u' v').hand e q) (λ e q u' v'. checked_hand l e _) j q0 e0 u v;
+        hand = λ q0 e0. all_at (λ j' e. high_lane c trusted plan h j' ≡ true → trusted_key trusted plan (lane_plan (host_plan plan h) j').cert.receiver ≡ false → e.hand ≡ []) l (checked_after_reply s (lane_plan (host_plan plan h) l) x.desk) x.workers (λ j' e n q u' v'. (kept.idle j' u' v').hand e q) (λ e q u' v'. checked_hand l e _) j q0 e0 u v;
       };
-      streams = all_at (λ j e. (rest : List ℕ) × (e.stream ≡ s.hello (lane_plan (host_plan plan h) j).cert ++ rest)) l (told_checked s (lane_plan (host_plan plan h) l) x.desk) x.workers (λ j e n q. kept.streams j e q) (λ e q. frame_stream l e _ (kept.streams l e q));
+      streams = all_at (λ j e. (rest : List ℕ) × (e.stream ≡ s.hello (lane_plan (host_plan plan h) j).cert ++ rest)) l (checked_after_reply s (lane_plan (host_plan plan h) l) x.desk) x.workers (λ j e n q. kept.streams j e q) (λ e q. frame_stream l e _ (kept.streams l e q));
     }
 
     pub keep_lane : KeptHost s c trusted plan h x → (l : ℕ) (o : Option Worker) → KeptHost s c trusted plan h (step_lane s (host_plan plan h) x l o)

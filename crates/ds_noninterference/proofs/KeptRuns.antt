@@ -11,12 +11,12 @@ use Rattle.ds_msg.specs.declared.message.Message.{Message}
 use Rattle.ds_model.specs.FirstRule.{unless, or_else}
 use Rattle.ds_model.specs.ProcessRules.{mailbox_rule}
 use Rattle.ds_model.specs.Scheme.{Scheme}
-use Rattle.ds_model.specs.Plan.{HostPlan, Plan, Source, Link, OfLane, host_plan, wire, box_plan}
+use Rattle.ds_model.specs.Plan.{HostPlan, Plan, Source, Link, OfLane, host_plan, conn_plan, box_plan}
 use Rattle.ds_model.specs.Desk.{Desk, Ticked, desk_after}
 use Rattle.ds_model.specs.ExporterRules.{receiver_rule}
 use Rattle.ds_model.specs.World.{Conn, Host, World, Passed}
-use Rattle.ds_model.specs.Asking.{box_of, label_of, target, judge_box}
-use Rattle.ds_model.specs.Connecting.{ConnAsk, Quiet, Become, Number, JudgeOne, Hand, peer, target_rule, judge_delivery, told_delivery, passed_of}
+use Rattle.ds_model.specs.ProcessStep.{box_of, label_of, target, judge_box}
+use Rattle.ds_model.specs.ConnectionStep.{ConnAsk, ConnWaits, ConnInternal, AsksInlet, AsksArrival, PutsPassed, peer, target_rule, judge_delivery, delivery_after_reply, passed_of}
 use Rattle.ds_model.specs.Step.{Event, Step, Frame, Arrive, Accept, Deliver, Tick, Inject, Copy, fresh_in, perform_conn, arrived, injected, step_conn, ticked, on_host, on_conn, happens}
 use Rattle.ds_noninterference.specs.High.{high_source}
 use Rattle.ds_noninterference.specs.Premises.{IsScheme}
@@ -43,11 +43,11 @@ module _ (s : Scheme) (c : Category) (secret : is_secrecy c.kind ≡ true) (trus
 
   -- the connection's host keeps its processes and lanes
   host_same : (r : ℕ) (x : Host) (y : Conn) (a : ConnAsk) → KeptHost s c trusted plan r x → KeptHost s c trusted plan r (perform_conn s (host_plan plan r) x y a).host
-  host_same r x y Quiet k = k
-  host_same r x y (Become next) k = k
-  host_same r x y (Number i n fresh stale) k = record { hands = k.hands; idle = λ l u v. record { waiting = (k.idle l u v).waiting; hand = (k.idle l u v).hand }; streams = k.streams }
-  host_same r x y (JudgeOne cert m rest) k = k
-  host_same r x y (Hand b m next) k = record { hands = k.hands; idle = λ l u v. record { waiting = (k.idle l u v).waiting; hand = (k.idle l u v).hand }; streams = k.streams }
+  host_same r x y ConnWaits k = k
+  host_same r x y (ConnInternal next) k = k
+  host_same r x y (AsksInlet i n fresh stale) k = record { hands = k.hands; idle = λ l u v. record { waiting = (k.idle l u v).waiting; hand = (k.idle l u v).hand }; streams = k.streams }
+  host_same r x y (AsksArrival cert m rest) k = k
+  host_same r x y (PutsPassed b m next) k = record { hands = k.hands; idle = λ l u v. record { waiting = (k.idle l u v).waiting; hand = (k.idle l u v).hand }; streams = k.streams }
 
   -- a message that was judged for a high lane is for a high mailbox
   judged_box : (here : HostPlan) (d : Desk) (cert : LaneCert) (m : Message) (b : ℕ) → has by_name c cert.label ≡ true → judge_delivery s here d cert m ≡ None → box_of here m.slot ≡ Some b → has by_name c (box_plan here b).label ≡ true
@@ -71,36 +71,36 @@ module _ (s : Scheme) (c : Category) (secret : is_secrecy c.kind ≡ true) (trus
       go h t = by_flow h (flows by_name m.label (box_plan here b).label []) refl t
 
   module _ (k : ℕ) (x : Host) (y : Conn) (there : slice_get w.conns k ≡ Some y) where
-    source_label : (source : Source) → (wire plan k).source ≡ source → (here : HostPlan) (cert : LaneCert) → high_source c trusted plan (wire plan k).host source ≡ true → peer s here (arrived w source y) ≡ Some cert → has by_name c cert.label ≡ true
+    source_label : (source : Source) → (conn_plan plan k).source ≡ source → (here : HostPlan) (cert : LaneCert) → high_source c trusted plan (conn_plan plan k).host source ≡ true → peer s here (arrived w source y) ≡ Some cert → has by_name c cert.label ≡ true
     source_label Link q here cert high e = absurd (grind arith)
     source_label (OfLane h l) q here cert high e = subst (λ z. has by_name c z.label ≡ true) (sym (own_peer s c trusted plan is w kept h l (fits.real k h l q) here y cert e)) (and_right _ _ (and_left _ _ high))
 
-    told_kept : (cert : LaneCert) (m : Message) (rest : List Message) (o : Option Rule) → judge_delivery s (host_plan plan (wire plan k).host) x.desk cert m ≡ o → peer s (host_plan plan (wire plan k).host) (arrived w (wire plan k).source y) ≡ Some cert → KeptConn c trusted plan k (told_delivery cert m rest o y)
+    told_kept : (cert : LaneCert) (m : Message) (rest : List Message) (o : Option Rule) → judge_delivery s (host_plan plan (conn_plan plan k).host) x.desk cert m ≡ o → peer s (host_plan plan (conn_plan plan k).host) (arrived w (conn_plan plan k).source y) ≡ Some cert → KeptConn c trusted plan k (delivery_after_reply cert m rest o y)
     told_kept cert m rest (Some rule) j e = λ high m' b p q. kept.conns k y there high m' b p q
     told_kept cert m rest None j e = λ high m' b p q.
         let same : passed_of cert m ≡ m' = some_eq (passed_of cert m) m' p in
-        judged_box (host_plan plan (wire plan k).host) x.desk cert m b (source_label (wire plan k).source refl (host_plan plan (wire plan k).host) cert high e) j (ap (λ z. box_of (host_plan plan (wire plan k).host) z.slot) same ∙ q)
+        judged_box (host_plan plan (conn_plan plan k).host) x.desk cert m b (source_label (conn_plan plan k).source refl (host_plan plan (conn_plan plan k).host) cert high e) j (ap (λ z. box_of (host_plan plan (conn_plan plan k).host) z.slot) same ∙ q)
 
     same_kept : (next : Conn) → next.passed ≡ y.passed → KeptConn c trusted plan k next
     same_kept next e = λ high m b p q. kept.conns k y there high m b (sym e ∙ p) q
 
-    conn_kept : (a : ConnAsk) → ConnFacts s (host_plan plan (wire plan k).host) y (arrived w (wire plan k).source y) a → KeptConn c trusted plan k (perform_conn s (host_plan plan (wire plan k).host) x y a).conn
-    conn_kept Quiet f = kept.conns k y there
-    conn_kept (Become next) f = go f
+    conn_kept : (a : ConnAsk) → ConnFacts s (host_plan plan (conn_plan plan k).host) y (arrived w (conn_plan plan k).source y) a → KeptConn c trusted plan k (perform_conn s (host_plan plan (conn_plan plan k).host) x y a).conn
+    conn_kept ConnWaits f = kept.conns k y there
+    conn_kept (ConnInternal next) f = go f
       where
         go : (next.passed ≡ y.passed) ⊎ (next.passed ≡ None) → KeptConn c trusted plan k next
         go (inl e) = same_kept next e
         go (inr e) = λ high m b p q. absurd (grind arith)
-    conn_kept (Number i n fresh stale) f = cond_case (KeptConn c trusted plan k) (fresh_in n (slice_get x.inlets i)) fresh stale (λ _. same_kept fresh f.fresh_same) (λ _. same_kept stale f.stale_same)
-    conn_kept (JudgeOne cert m rest) f = told_kept cert m rest _ refl f
-    conn_kept (Hand b m next) f = λ high m' b' p q. absurd (none_some m' (sym f.empty ∙ p))
+    conn_kept (AsksInlet i n fresh stale) f = cond_case (KeptConn c trusted plan k) (fresh_in n (slice_get x.inlets i)) fresh stale (λ _. same_kept fresh f.fresh_same) (λ _. same_kept stale f.stale_same)
+    conn_kept (AsksArrival cert m rest) f = told_kept cert m rest _ refl f
+    conn_kept (PutsPassed b m next) f = λ high m' b' p q. absurd (none_some m' (sym f.empty ∙ p))
       where
         none_some : (m' : Passed) → None ≡ Some m' → ⊥
         none_some m' e = grind arith
 
-  keep_conn : (k : ℕ) (asks : Conn → ConnAsk) → ((y : Conn) → ConnFacts s (host_plan plan (wire plan k).host) y (arrived w (wire plan k).source y) (asks y)) → (o : Option Host) (q : Option Conn) → slice_get w.hosts (wire plan k).host ≡ o → slice_get w.conns k ≡ q → Kept s c trusted plan (step_conn s plan w (wire plan k).host k asks o q)
+  keep_conn : (k : ℕ) (asks : Conn → ConnAsk) → ((y : Conn) → ConnFacts s (host_plan plan (conn_plan plan k).host) y (arrived w (conn_plan plan k).source y) (asks y)) → (o : Option Host) (q : Option Conn) → slice_get w.hosts (conn_plan plan k).host ≡ o → slice_get w.conns k ≡ q → Kept s c trusted plan (step_conn s plan w (conn_plan plan k).host k asks o q)
   keep_conn k asks facts (Some x) (Some y) there there' = record {
-    hosts = all_at (KeptHost s c trusted plan) (wire plan k).host _ w.hosts (λ j z n e. kept.hosts j z e) (λ z e. host_same (wire plan k).host x y (asks y) (kept.hosts (wire plan k).host x there));
+    hosts = all_at (KeptHost s c trusted plan) (conn_plan plan k).host _ w.hosts (λ j z n e. kept.hosts j z e) (λ z e. host_same (conn_plan plan k).host x y (asks y) (kept.hosts (conn_plan plan k).host x there));
     conns = all_at (KeptConn c trusted plan) k _ w.conns (λ j z n e. kept.conns j z e) (λ z e. conn_kept k x y there' (asks y) (facts y));
   }
   keep_conn k asks facts None q there there' = kept
@@ -114,12 +114,12 @@ module _ (s : Scheme) (c : Category) (secret : is_secrecy c.kind ≡ true) (trus
   keep_event (Step h p) = keep_on_host h _ (λ x e k. keep_proc s c secret trusted plan is fits w sound h x e k p (slice_get x.procs p) refl)
   keep_event (Frame h l) = keep_on_host h _ (λ x e k. keep_lane s c secret trusted plan is fits w sound h x e k l (slice_get x.workers l))
   keep_event (Arrive k n) = keep_on_conn k _ (λ y e. refl)
-  keep_event (Accept k) = keep_conn k _ (λ y. accept_facts s (host_plan plan (wire plan k).host) y (arrived w (wire plan k).source y)) _ _ refl refl
-  keep_event (Deliver k) = keep_conn k _ (λ y. deliver_facts s (host_plan plan (wire plan k).host) y (arrived w (wire plan k).source y)) _ _ refl refl
+  keep_event (Accept k) = keep_conn k _ (λ y. accept_facts s (host_plan plan (conn_plan plan k).host) y (arrived w (conn_plan plan k).source y)) _ _ refl refl
+  keep_event (Deliver k) = keep_conn k _ (λ y. deliver_facts s (host_plan plan (conn_plan plan k).host) y (arrived w (conn_plan plan k).source y)) _ _ refl refl
   keep_event (Tick h t) = keep_on_host h (ticked (host_plan plan h) t) (λ x e k. tick (host_plan plan h).silent x k)
     where
       tick : (z : Bool) (x : Host) → KeptHost s c trusted plan h x → KeptHost s c trusted plan h (if z then x else record x { desk = desk_after (host_plan plan h).key (Ticked t) x.desk })
       tick true x k = k
       tick false x k = record { hands = k.hands; idle = λ l u v. record { waiting = (k.idle l u v).waiting; hand = (k.idle l u v).hand }; streams = k.streams }
-  keep_event (Inject k bytes) = keep_on_conn k _ (λ y e. injected_same (wire plan k).source bytes y)
+  keep_event (Inject k bytes) = keep_on_conn k _ (λ y e. injected_same (conn_plan plan k).source bytes y)
   keep_event (Copy k j from until) = kept

@@ -10,13 +10,13 @@ use Rattle.ds_msg.specs.declared.message.Message.{Message}
 use Rattle.ds_script.specs.declared.op.Op.{Op}
 use Rattle.ds_model.specs.Keys.{same_key}
 use Rattle.ds_model.specs.Scheme.{Item, Hello, Framed}
-use Rattle.ds_model.specs.Plan.{HostPlan, Link, OfLane, IsHost, IsLane, host_plan, wire, lane_plan}
-use Rattle.ds_model.specs.Connecting.{peer, hello_of}
+use Rattle.ds_model.specs.Plan.{HostPlan, Link, OfLane, IsHost, IsLane, host_plan, conn_plan, lane_plan}
+use Rattle.ds_model.specs.ConnectionStep.{peer, hello_of}
 use Rattle.ds_model.specs.World.{Process, Queue, Worker, Conn, Host, World}
 use Rattle.ds_model.specs.Step.{Event, step, arrived}
-use Rattle.ds_model.specs.SmallWorlds.{new_conn}
+use Rattle.ds_model.specs.Examples.OneHost.{new_conn}
 use Rattle.ds_noninterference.specs.High.{is_in, high_at, high_lane, IsTrusted}
-use Rattle.ds_noninterference.specs.Marks.{Along, marks}
+use Rattle.ds_noninterference.specs.Observations.{Along, marks}
 use Rattle.ds_noninterference.specs.Alike.{Alike, AlikeAt, AlikeWorlds}
 use Rattle.ds_noninterference.specs.Premises.{IsScheme, Fits, AtStart, Obeys, Unforged, NothingForged, IssuesInside}
 use Rattle.ds_noninterference.specs.Network.{a_key, b_key, x_key, secret, to_b, high_cert, low_cert, own_cert, cert_of, frames_on, items_if, items_by, net_items, names_key, net_scheme, a_host, b_host, x_host, net, both, a_world, b_world, x_world, proc, net_world, yes_script, no_script, yes_events, no_events, IsNetMet}
@@ -92,7 +92,7 @@ scheme = record { closed = closed; hello_first = hello_first }
 fits : Fits net
 fits = record { ends = ends; by = by; lanes = lanes }
   where
-    ends : (k h l : ℕ) → (wire net k).source ≡ OfLane h l → IsLane net h l × IsHost net (wire net k).host × ((host_plan net (wire net k).host).key ≡ (lane_plan (host_plan net h) l).cert.receiver)
+    ends : (k h l : ℕ) → (conn_plan net k).source ≡ OfLane h l → IsLane net h l × IsHost net (conn_plan net k).host × ((host_plan net (conn_plan net k).host).key ≡ (lane_plan (host_plan net h) l).cert.receiver)
     ends zero h l e = let i : 0 ≡ h = cc in let j : 0 ≡ l = cc in subst (λ g. IsLane net g l × IsHost net 1 × (b_key ≡ (lane_plan (host_plan net g) l).cert.receiver)) i (subst (λ m. IsLane net 0 m × IsHost net 1 × (b_key ≡ (lane_plan (host_plan net 0) m).cert.receiver)) j (omega arith, omega arith, refl))
     ends (suc zero) h l e = let i : 0 ≡ h = cc in let j : 1 ≡ l = cc in subst (λ g. IsLane net g l × IsHost net 2 × (x_key ≡ (lane_plan (host_plan net g) l).cert.receiver)) i (subst (λ m. IsLane net 0 m × IsHost net 2 × (x_key ≡ (lane_plan (host_plan net 0) m).cert.receiver)) j (omega arith, omega arith, refl))
     ends (suc (suc zero)) h l e = absurd (grind arith)
@@ -242,7 +242,7 @@ a_peer : (bytes : List ℕ) (lane : LaneCert) → peer net_scheme a_host bytes �
 a_peer [] lane e = none_some lane e
 a_peer (byte ∷ rest) lane e = by_a byte rest lane e
 
-link_peer : (w : World) (bytes : List ℕ) → Stays w bytes → IsOutsiders bytes → (k : ℕ) (y : Conn) (lane : LaneCert) → slice_get w.conns k ≡ Some y → (wire net k).source ≡ Link → peer net_scheme (host_plan net (wire net k).host) (arrived w Link y) ≡ Some lane → own_cert ≡ lane
+link_peer : (w : World) (bytes : List ℕ) → Stays w bytes → IsOutsiders bytes → (k : ℕ) (y : Conn) (lane : LaneCert) → slice_get w.conns k ≡ Some y → (conn_plan net k).source ≡ Link → peer net_scheme (host_plan net (conn_plan net k).host) (arrived w Link y) ≡ Some lane → own_cert ≡ lane
 link_peer w bytes stays outs zero y lane there source read = absurd (grind arith)
 link_peer w bytes stays outs (suc zero) y lane there source read = absurd (grind arith)
 link_peer w bytes stays outs (suc (suc zero)) y lane there source read = outsiders_peer (take y.count y.link) lane (subst IsOutsiders (sym (sym (ap link_bytes there) ∙ stays.link)) outs) read

@@ -5,7 +5,7 @@ use native.Mathlib.Decide.{ℕ_discrete}
 use Rattle.ds_label.specs.declared.category.Category.{Category}
 use Rattle.ds_label.specs.Names.{is_secrecy}
 use Rattle.ds_model.specs.Scheme.{Scheme}
-use Rattle.ds_model.specs.Plan.{Plan, host_plan, wire}
+use Rattle.ds_model.specs.Plan.{Plan, host_plan, conn_plan}
 use Rattle.ds_model.specs.World.{Queue, Worker, LaneLine, Conn, Host, World}
 use Rattle.ds_model.specs.Step.{arrived, run}
 use Rattle.ds_model.specs.Views.{proc_in}
@@ -90,19 +90,19 @@ module _ (s : Scheme) (c : Category) (secret : is_secrecy c.kind ≡ true) (trus
     same_sections_at h (Some x) None there there' r = absurd r
     same_sections_at h (Some x) (Some y) there there' r = ap (λ z. if (host_plan plan h).silent then [] else z) (same_host_sections h x y there there' r)
 
-    same_conn_section : (k : ℕ) (o q : Option Conn) → o ≡ q → ((y : Conn) → arrived v (wire plan k).source y ≡ arrived w (wire plan k).source y) → conn_section f plan v k o ≡ conn_section f plan w k q
+    same_conn_section : (k : ℕ) (o q : Option Conn) → o ≡ q → ((y : Conn) → arrived v (conn_plan plan k).source y ≡ arrived w (conn_plan plan k).source y) → conn_section f plan v k o ≡ conn_section f plan w k q
     same_conn_section k None q e g = ap (conn_section f plan w k) e
     same_conn_section k (Some y) q e g = ap (λ bytes. f.conn k y bytes ∷ []) (g y) ∙ ap (conn_section f plan w k) e
 
     same_conn_sections : (k : ℕ) → high_conn c trusted plan k ≡ false → conn_sections f plan v k ≡ conn_sections f plan w k
-    same_conn_sections k low = ap (λ z. if (host_plan plan (wire plan k).host).silent then [] else z)
+    same_conn_sections k low = ap (λ z. if (host_plan plan (conn_plan plan k).host).silent then [] else z)
         (same_conn_section k (slice_get v.conns k) (slice_get w.conns k) (same_conns s c trusted plan is secret fits v w alike k low)
-        (λ y. ap (take y.count) (same_stream s c trusted plan is secret fits v w alike k (wire plan k).source y refl low)))
+        (λ y. ap (take y.count) (same_stream s c trusted plan is secret fits v w alike k (conn_plan plan k).source y refl low)))
 
     pub same_outside : outside_sections f c trusted plan v ≡ outside_sections f c trusted plan w
     same_outside = ap (λ z. f.first ∷ z) (ap₂ (λ a b. a ++ b)
         (gathered_same _ _ (length plan.hosts) (λ h. same_sections_at h _ _ refl refl (alike.hosts h)))
-        (sections_same _ _ _ _ (length plan.wires) (λ k. refl) same_conn_sections))
+        (sections_same _ _ _ _ (length plan.conn_plans) (λ k. refl) same_conn_sections))
 
 pub outside : AtEnd SameSections
 outside s c trusted plan v w one two p f = same_outside s c p.secret trusted plan p.scheme (setting s c trusted plan v one p.fits p.obeys_one) f (run s plan v one) (run s plan w two) (laws s c trusted plan v w one two p)

@@ -12,16 +12,16 @@ use Rattle.ds_msg.specs.declared.message.Message.{Message}
 use Rattle.ds_model.specs.Keys.{same_key}
 use Rattle.ds_model.specs.ProcessRules.{can_grant}
 use Rattle.ds_model.specs.Scheme.{Scheme}
-use Rattle.ds_model.specs.Plan.{HostPlan, Plan, host_plan, wire}
+use Rattle.ds_model.specs.Plan.{HostPlan, Plan, host_plan, conn_plan}
 use Rattle.ds_model.specs.Desk.{Act, Reply, act_entry, reply_of, Ticked, desk_after}
 use Rattle.ds_model.specs.World.{Process, Mail, Conn, Host, World}
-use Rattle.ds_model.specs.Asking.{Ask, Stay, Alone, Put, Admit, TakeFrom, Do, Judge, box_of, Target, Not, Into, judge_box, send_rule, send_here, send_away, message_of, take_rule, take_from, relabel, make, publish, publish_rule, ask_outer, ask_inner, lane_of, queue_at, ask_hand, ask, told_taken, told_act, told_judged}
-use Rattle.ds_model.specs.LaneWork.{LaneAsk, Wait, Lift, Check, lane_ask}
-use Rattle.ds_model.specs.Connecting.{ConnAsk, Quiet, Become, Number, JudgeOne, Hand, accept, deliver}
+use Rattle.ds_model.specs.ProcessStep.{Ask, Waits, Internal, Put, Admit, TakeFrom, PublicAct, AsksJudgement, box_of, Target, Not, Into, judge_box, send_rule, send_here, send_away, message_of, take_rule, take_from, relabel, make, publish, publish_rule, ask_outer, ask_inner, lane_of, queue_at, ask_hand, ask, taken_after_reply, act_after_reply, judged_after_reply}
+use Rattle.ds_model.specs.WorkerStep.{LaneAsk, WorkerWaits, Lifts, AsksRecheck, lane_ask}
+use Rattle.ds_model.specs.ConnectionStep.{ConnAsk, ConnWaits, ConnInternal, AsksInlet, AsksArrival, PutsPassed, accept, deliver}
 use Rattle.ds_model.specs.Step.{Event, Step, Frame, Arrive, Accept, Deliver, Tick, Inject, Copy, arrived, oldest_in, judged, attached, perform, step_proc, perform_lane, step_lane, perform_conn, step_conn, ticked, on_host, resolve, happens, step, run}
 use Rattle.ds_model.specs.Views.{proc_in, proc_at}
 use Rattle.ds_noninterference.specs.High.{is_in, high_proc, high_lane, high_conn}
-use Rattle.ds_noninterference.specs.Marks.{Released, Mark, Release, High, Low, unless_has, ToBox, ToLane, released, mark_released, mark_proc, high_or, mark_of}
+use Rattle.ds_noninterference.specs.Observations.{Released, Mark, Release, High, Low, unless_has, ToBox, ToLane, released, mark_released, mark_proc, high_or, mark_of}
 use Rattle.ds_noninterference.specs.Premises.{AtStart}
 use Rattle.ds_noninterference.specs.Owners.{OnlyOwnersRelease}
 use Rattle.ds_model.proofs.Places.{cond_case, some_is, none_some}
@@ -35,13 +35,13 @@ module _ (c : Category) (secret : is_secrecy c.kind ≡ true) where
   Lets x label = has by_name c x.label ≡ true → (has by_name c label || has by_name c x.own) ≡ true
 
   abbrev OwnFacts : Process → Ask → Type 0
-  OwnFacts x Stay = Unit {0}
-  OwnFacts x (Alone next) = next.hand ≡ None
+  OwnFacts x Waits = Unit {0}
+  OwnFacts x (Internal next) = next.hand ≡ None
   OwnFacts x (Put b m next) = (next.hand ≡ None) × Lets x m.label
   OwnFacts x (Admit l m next) = (x.hand ≡ Some m) × (next.hand ≡ None)
   OwnFacts x (TakeFrom b reg slot) = x.hand ≡ None
-  OwnFacts x (Do act reg host) = (x.hand ≡ None) × (has by_name c x.label ≡ true → has by_name c x.own ≡ true)
-  OwnFacts x (Judge m) = (x.hand ≡ None) × Lets x m.label
+  OwnFacts x (PublicAct act reg host) = (x.hand ≡ None) × (has by_name c x.label ≡ true → has by_name c x.own ≡ true)
+  OwnFacts x (AsksJudgement m) = (x.hand ≡ None) × Lets x m.label
 
   sent_lets : (plan : HostPlan) (x : Process) (m : Message) → send_rule plan x m ≡ None → Lets x m.label
   sent_lets plan x m e = flows_carries c x.label m.label x.own secret (unless_none _ _ (first_none _ _ (first_none _ _ (first_none _ _ e).1).0).0)
@@ -134,12 +134,12 @@ module _ (c : Category) (secret : is_secrecy c.kind ≡ true) where
       go (inl l) = by_flow (has by_name c label) without (lets l)
       go (inr o) = o
 
-  taken_hand : (r slot : ℕ) (o : Option (Mail Category)) (z : Process) → (told_taken r slot o z).hand ≡ z.hand
+  taken_hand : (r slot : ℕ) (o : Option (Mail Category)) (z : Process) → (taken_after_reply r slot o z).hand ≡ z.hand
   taken_hand r slot None z = refl
   taken_hand r slot (Some m) z = cond_case (λ z'. z'.hand ≡ z.hand) (can_grant by_name z.own z.clear m.own m.clear) (record z { own = union by_name z.own m.own; clear = union by_name z.clear m.clear }) z (λ _. refl) (λ _. refl)
 
-  judged_owned : (m : Message) (certs : List (List ℕ)) (o : Option Rule) (z : Process) → z.hand ≡ None → Lets z m.label → Owned (told_judged m certs o z)
-  judged_owned m certs (Some rule) z h lets = empty_owned (told_judged m certs (Some rule) z) h
+  judged_owned : (m : Message) (certs : List (List ℕ)) (o : Option Rule) (z : Process) → z.hand ≡ None → Lets z m.label → Owned (judged_after_reply m certs o z)
+  judged_owned m certs (Some rule) z h lets = empty_owned (judged_after_reply m certs (Some rule) z) h
   judged_owned m certs None z h lets = λ m' q without high.
       let same : record m { certs = certs } ≡ m' = some_is (record m { certs = certs }) m' q in
       lets_own z m.label lets (subst (λ n. has by_name c n.label ≡ false) (sym same) without) high
@@ -149,29 +149,29 @@ module _ (c : Category) (secret : is_secrecy c.kind ≡ true) where
     at_proc x p y f e old new = all_at (λ j z. Owned z) p f x.procs (λ j z n i. old j z i) (λ z i. subst (λ u. Owned (f u)) (some_is y z (sym e ∙ i)) new)
 
     ask_owned : (hp : HostPlan) (x : Host) (p : ℕ) (y : Process) (a : Ask) → slice_get x.procs p ≡ Some y → OwnFacts y a → OwnedHost x → OwnedHost (perform s hp x p a)
-    ask_owned hp x p y Stay e f old = old
-    ask_owned hp x p y (Alone next) e f old = at_proc x p y (λ _. next) e old (empty_owned next f)
+    ask_owned hp x p y Waits e f old = old
+    ask_owned hp x p y (Internal next) e f old = at_proc x p y (λ _. next) e old (empty_owned next f)
     ask_owned hp x p y (Put b m next) e f old = at_proc x p y (λ _. next) e old (empty_owned next f.0)
     ask_owned hp x p y (Admit l m next) e f old = at_proc x p y (λ _. next) e old (empty_owned next f.1)
-    ask_owned hp x p y (TakeFrom b r slot) e f old = at_proc x p y (told_taken r slot (oldest_in (slice_get x.boxes b))) e old (empty_owned (told_taken r slot (oldest_in (slice_get x.boxes b)) y) (taken_hand r slot (oldest_in (slice_get x.boxes b)) y ∙ f))
-    ask_owned hp x p y (Do a r g) e f old = at_proc x p y (told_act r g a (reply_of s hp x.desk (act_entry s hp x.desk a))) e old (empty_owned (told_act r g a (reply_of s hp x.desk (act_entry s hp x.desk a)) y) f.0)
-    ask_owned hp x p y (Judge m) e f old = at_proc x p y (told_judged m (attached s hp x.desk m) (judged s hp x.desk m)) e old (judged_owned m (attached s hp x.desk m) (judged s hp x.desk m) y f.0 f.1)
+    ask_owned hp x p y (TakeFrom b r slot) e f old = at_proc x p y (taken_after_reply r slot (oldest_in (slice_get x.boxes b))) e old (empty_owned (taken_after_reply r slot (oldest_in (slice_get x.boxes b)) y) (taken_hand r slot (oldest_in (slice_get x.boxes b)) y ∙ f))
+    ask_owned hp x p y (PublicAct a r g) e f old = at_proc x p y (act_after_reply r g a (reply_of s hp x.desk (act_entry s hp x.desk a))) e old (empty_owned (act_after_reply r g a (reply_of s hp x.desk (act_entry s hp x.desk a)) y) f.0)
+    ask_owned hp x p y (AsksJudgement m) e f old = at_proc x p y (judged_after_reply m (attached s hp x.desk m) (judged s hp x.desk m)) e old (judged_owned m (attached s hp x.desk m) (judged s hp x.desk m) y f.0 f.1)
 
     proc_owned : (hp : HostPlan) (x : Host) (p : ℕ) (o : Option Process) → slice_get x.procs p ≡ o → OwnedHost x → OwnedHost (step_proc s hp x p o)
     proc_owned hp x p None e old = old
     proc_owned hp x p (Some y) e old = ask_owned hp x p y (ask hp p y) e (own_facts hp p y) old
 
     lane_owned : (hp : HostPlan) (x : Host) (l : ℕ) (a : LaneAsk) → OwnedHost x → OwnedHost (perform_lane s hp x l a)
-    lane_owned hp x l Wait old = old
-    lane_owned hp x l Lift old = old
-    lane_owned hp x l Check old = old
+    lane_owned hp x l WorkerWaits old = old
+    lane_owned hp x l Lifts old = old
+    lane_owned hp x l AsksRecheck old = old
 
     conn_owned : (hp : HostPlan) (x : Host) (y : Conn) (a : ConnAsk) → OwnedHost x → OwnedHost (perform_conn s hp x y a).host
-    conn_owned hp x y Quiet old = old
-    conn_owned hp x y (Become next) old = old
-    conn_owned hp x y (Number i n fresh stale) old = old
-    conn_owned hp x y (JudgeOne lane m rest) old = old
-    conn_owned hp x y (Hand b m next) old = old
+    conn_owned hp x y ConnWaits old = old
+    conn_owned hp x y (ConnInternal next) old = old
+    conn_owned hp x y (AsksInlet i n fresh stale) old = old
+    conn_owned hp x y (AsksArrival lane m rest) old = old
+    conn_owned hp x y (PutsPassed b m next) old = old
 
     tick_owned : (z : Bool) (key : Rattle.ds_label.specs.declared.category.PubKey.PubKey) (t : ℕ) (x : Host) → OwnedHost x → OwnedHost (cond z x (record x { desk = desk_after key (Ticked t) x.desk }))
     tick_owned true key t x old = old
@@ -184,17 +184,17 @@ module _ (c : Category) (secret : is_secrecy c.kind ≡ true) where
     lane_o hp x l None old = old
     lane_o hp x l (Some e) old = lane_owned hp x l (lane_ask s (Rattle.ds_model.specs.Plan.lane_plan hp l) e) old
 
-    conn_o : (w : World) (k : ℕ) (asks : Conn → ConnAsk) (o : Option Host) (q : Option Conn) → slice_get w.hosts (wire plan k).host ≡ o → OwnedWorld w → OwnedWorld (step_conn s plan w (wire plan k).host k asks o q)
+    conn_o : (w : World) (k : ℕ) (asks : Conn → ConnAsk) (o : Option Host) (q : Option Conn) → slice_get w.hosts (conn_plan plan k).host ≡ o → OwnedWorld w → OwnedWorld (step_conn s plan w (conn_plan plan k).host k asks o q)
     conn_o w k asks None q e old = old
     conn_o w k asks (Some x) None e old = old
-    conn_o w k asks (Some x) (Some y) e old = all_at (λ j z. OwnedHost z) (wire plan k).host (λ _. (perform_conn s (host_plan plan (wire plan k).host) x y (asks y)).host) w.hosts (λ j z n i. old j z i) (λ z i. conn_owned (host_plan plan (wire plan k).host) x y (asks y) (old (wire plan k).host x e))
+    conn_o w k asks (Some x) (Some y) e old = all_at (λ j z. OwnedHost z) (conn_plan plan k).host (λ _. (perform_conn s (host_plan plan (conn_plan plan k).host) x y (asks y)).host) w.hosts (λ j z n i. old j z i) (λ z i. conn_owned (host_plan plan (conn_plan plan k).host) x y (asks y) (old (conn_plan plan k).host x e))
 
     event_owned : (w : World) (e : Event) → OwnedWorld w → OwnedWorld (happens s plan w e)
     event_owned w (Step h p) old = on_host_owned w h (λ x. step_proc s (host_plan plan h) x p (slice_get x.procs p)) old (λ x e o. proc_owned (host_plan plan h) x p (slice_get x.procs p) refl o)
     event_owned w (Frame h l) old = on_host_owned w h (λ x. step_lane s (host_plan plan h) x l (slice_get x.workers l)) old (λ x e o. lane_o (host_plan plan h) x l (slice_get x.workers l) o)
     event_owned w (Arrive k n) old = old
-    event_owned w (Accept k) old = conn_o w k (λ y. accept s (host_plan plan (wire plan k).host) y (arrived w (wire plan k).source y)) (slice_get w.hosts (wire plan k).host) (slice_get w.conns k) refl old
-    event_owned w (Deliver k) old = conn_o w k (λ y. deliver s (host_plan plan (wire plan k).host) y (arrived w (wire plan k).source y)) (slice_get w.hosts (wire plan k).host) (slice_get w.conns k) refl old
+    event_owned w (Accept k) old = conn_o w k (λ y. accept s (host_plan plan (conn_plan plan k).host) y (arrived w (conn_plan plan k).source y)) (slice_get w.hosts (conn_plan plan k).host) (slice_get w.conns k) refl old
+    event_owned w (Deliver k) old = conn_o w k (λ y. deliver s (host_plan plan (conn_plan plan k).host) y (arrived w (conn_plan plan k).source y)) (slice_get w.hosts (conn_plan plan k).host) (slice_get w.conns k) refl old
     event_owned w (Tick h t) old = on_host_owned w h (ticked (host_plan plan h) t) old (λ x e o. tick_owned (host_plan plan h).silent (host_plan plan h).key t x o)
     event_owned w (Inject k bytes) old = old
     event_owned w (Copy k j from until) old = old
@@ -210,17 +210,17 @@ module _ (c : Category) (secret : is_secrecy c.kind ≡ true) where
   without true r q e = absurd (grind arith)
 
   releases_own : (x : Process) (a : Ask) (r : Released) → OwnFacts x a → Owned x → (has by_name c x.label || has by_name c x.own) ≡ true → released c a ≡ Some r → has by_name c x.own ≡ true
-  releases_own x Stay r f owned high e = absurd (grind arith)
-  releases_own x (Alone next) r f owned high e = absurd (grind arith)
+  releases_own x Waits r f owned high e = absurd (grind arith)
+  releases_own x (Internal next) r f owned high e = absurd (grind arith)
   releases_own x (Put b m next) r f owned high e = lets_own x m.label f.1 (without (has by_name c m.label) (ToBox b m) r e) high
   releases_own x (Admit l m next) r f owned high e = owned m f.0 (without (has by_name c m.label) (ToLane l m) r e) high
   releases_own x (TakeFrom b reg slot) r f owned high e = absurd (grind arith)
-  releases_own x (Do act reg host) r f owned high e = go (or_cases _ _ high)
+  releases_own x (PublicAct act reg host) r f owned high e = go (or_cases _ _ high)
     where
       go : (has by_name c x.label ≡ true) ⊎ (has by_name c x.own ≡ true) → has by_name c x.own ≡ true
       go (inl l) = f.1 l
       go (inr o) = o
-  releases_own x (Judge m) r f owned high e = absurd (grind arith)
+  releases_own x (AsksJudgement m) r f owned high e = absurd (grind arith)
 
   module _ (trusted : List ℕ) (plan : Plan) (w : World) (owned : OwnedWorld w) where
     abbrev Owner : ℕ → ℕ → Type 0

@@ -11,10 +11,10 @@ use Rattle.ds_model.specs.Mailbox.{put, took}
 use Rattle.ds_model.specs.Lane.{admit}
 use Rattle.ds_model.specs.Desk.{desk_after, Act, Reply, act_entry, reply_of}
 use Rattle.ds_model.specs.World.{Process, Mail, Host}
-use Rattle.ds_model.specs.Asking.{Ask, Stay, Alone, Put, Admit, TakeFrom, Do, Judge, ask, told_taken, told_act, told_judged}
+use Rattle.ds_model.specs.ProcessStep.{Ask, Waits, Internal, Put, Admit, TakeFrom, PublicAct, AsksJudgement, ask, taken_after_reply, act_after_reply, judged_after_reply}
 use Rattle.ds_model.specs.Step.{Step, oldest_in, admitted_lines, judged, attached, perform, step_proc}
 use Rattle.ds_noninterference.specs.High.{is_in, high_proc, high_at, IsTrusted}
-use Rattle.ds_noninterference.specs.Marks.{Released, ToBox, ToLane, ByAct, High, Low, unless_has, released, mark_released, mark_proc}
+use Rattle.ds_noninterference.specs.Observations.{Released, ToBox, ToLane, ByAct, High, Low, unless_has, released, mark_released, mark_proc}
 use Rattle.ds_noninterference.specs.Alike.{Alike, AlikeHosts}
 use Rattle.ds_noninterference.proofs.Flow.{and_left, and_both, or_cases, or_left, or_right, not_both, flows_carries, same_label_carries_back}
 use Rattle.ds_noninterference.proofs.Asks.{Follows, AskFacts, ask_facts}
@@ -58,11 +58,11 @@ put_released c b m (Put b' m' next) e =
     let v : m' ≡ m = cc in
     (next, ap₂ (λ i j. Put i j next) u v)
 put_released c b m (Admit l m' next) e = let q : ToLane l m' ≡ ToBox b m = let_out _ _ _ e in absurd (grind arith)
-put_released c b m (Do a r g) e = absurd (grind arith)
-put_released c b m Stay e = absurd (grind arith)
-put_released c b m (Alone next) e = absurd (grind arith)
+put_released c b m (PublicAct a r g) e = absurd (grind arith)
+put_released c b m Waits e = absurd (grind arith)
+put_released c b m (Internal next) e = absurd (grind arith)
 put_released c b m (TakeFrom b' r slot) e = absurd (grind arith)
-put_released c b m (Judge m') e = absurd (grind arith)
+put_released c b m (AsksJudgement m') e = absurd (grind arith)
 
 admit_released : (c : Category) (l : ℕ) (m : Message) (a : Ask) → released c a ≡ Some (ToLane l m) → (next : Process) × (a ≡ Admit l m next)
 admit_released c l m (Admit l' m' next) e =
@@ -71,20 +71,20 @@ admit_released c l m (Admit l' m' next) e =
     let v : m' ≡ m = cc in
     (next, ap₂ (λ i j. Admit i j next) u v)
 admit_released c l m (Put b m' next) e = let q : ToBox b m' ≡ ToLane l m = let_out _ _ _ e in absurd (grind arith)
-admit_released c l m (Do a r g) e = absurd (grind arith)
-admit_released c l m Stay e = absurd (grind arith)
-admit_released c l m (Alone next) e = absurd (grind arith)
+admit_released c l m (PublicAct a r g) e = absurd (grind arith)
+admit_released c l m Waits e = absurd (grind arith)
+admit_released c l m (Internal next) e = absurd (grind arith)
 admit_released c l m (TakeFrom b' r slot) e = absurd (grind arith)
-admit_released c l m (Judge m') e = absurd (grind arith)
+admit_released c l m (AsksJudgement m') e = absurd (grind arith)
 
-do_released : (c : Category) (a : Act) (k : Ask) → released c k ≡ Some (ByAct a) → (r : ℕ) × (g : ℕ) × (k ≡ Do a r g)
-do_released c a (Do a' r g) e = let u : a' ≡ a = cc in (r, g, ap (λ i. Do i r g) u)
+do_released : (c : Category) (a : Act) (k : Ask) → released c k ≡ Some (ByAct a) → (r : ℕ) × (g : ℕ) × (k ≡ PublicAct a r g)
+do_released c a (PublicAct a' r g) e = let u : a' ≡ a = cc in (r, g, ap (λ i. PublicAct i r g) u)
 do_released c a (Put b m' next) e = let q : ToBox b m' ≡ ByAct a = let_out _ _ _ e in absurd (grind arith)
 do_released c a (Admit l m' next) e = let q : ToLane l m' ≡ ByAct a = let_out _ _ _ e in absurd (grind arith)
-do_released c a Stay e = absurd (grind arith)
-do_released c a (Alone next) e = absurd (grind arith)
+do_released c a Waits e = absurd (grind arith)
+do_released c a (Internal next) e = absurd (grind arith)
 do_released c a (TakeFrom b' r slot) e = absurd (grind arith)
-do_released c a (Judge m') e = absurd (grind arith)
+do_released c a (AsksJudgement m') e = absurd (grind arith)
 
 module _ (s : Scheme) (c : Category) (secret : is_secrecy c.kind ≡ true) (trusted : List ℕ) (plan : Plan) (h : ℕ) where
   -- the process at p, and that it is High before and after
@@ -96,8 +96,8 @@ module _ (s : Scheme) (c : Category) (secret : is_secrecy c.kind ≡ true) (trus
   next_high x p y next e high f = high_next c (is_in trusted h) y next (slice_get x.procs p) e (f.stays c secret) (here_high x p y e high)
 
   quiet_ask : (x : Host) (p : ℕ) (y : Process) (a : Ask) → slice_get x.procs p ≡ Some y → high_proc c (is_in trusted h) y ≡ true → AskFacts (host_plan plan h) p y a → SafeHand c trusted plan y.hand → released c a ≡ None → AlikeHosts c trusted plan h x (perform s (host_plan plan h) x p a)
-  quiet_ask x p y Stay e high f safe m = alike_self c trusted plan h x
-  quiet_ask x p y (Alone next) e high f safe m = quiet_proc c trusted plan h x p (λ _. next) (here_high x p y e high) (next_high x p y next e high f)
+  quiet_ask x p y Waits e high f safe m = alike_self c trusted plan h x
+  quiet_ask x p y (Internal next) e high f safe m = quiet_proc c trusted plan h x p (λ _. next) (here_high x p y e high) (next_high x p y next e high f)
   quiet_ask x p y (Put b mail next) e high f safe m =
       quiet_box c trusted plan h x p b (λ _. next) (put (box_plan (host_plan plan h) b).room mail) (here_high x p y e high) (next_high x p y next e high f.0)
       (and_both _ _ (and_left _ _ high) (or_left _ _ (labelled (or_cases _ _ (flows_carries c mail.label (box_plan (host_plan plan h) b).label [] secret f.1 (kept_in (has by_name c mail.label) (ToBox b mail) m))))))
@@ -112,13 +112,13 @@ module _ (s : Scheme) (c : Category) (secret : is_secrecy c.kind ≡ true) (trus
         to = subst (IsTrusted trusted plan) (sym f.2) (safe m f.1 (kept_in (has by_name c m.label) (ToLane l m) k));
       })
   quiet_ask x p y (TakeFrom b r slot) e high f safe m =
-      quiet_box c trusted plan h x p b (told_taken r slot (oldest_in (slice_get x.boxes b))) took (here_high x p y e high)
-      (high_map c (is_in trusted h) _ (λ z. high_stays c (is_in trusted h) z (told_taken r slot (oldest_in (slice_get x.boxes b)) z) (taken_stays c r slot (oldest_in (slice_get x.boxes b)) z)) _ (here_high x p y e high))
+      quiet_box c trusted plan h x p b (taken_after_reply r slot (oldest_in (slice_get x.boxes b))) took (here_high x p y e high)
+      (high_map c (is_in trusted h) _ (λ z. high_stays c (is_in trusted h) z (taken_after_reply r slot (oldest_in (slice_get x.boxes b)) z) (taken_stays c r slot (oldest_in (slice_get x.boxes b)) z)) _ (here_high x p y e high))
       (and_both _ _ (and_left _ _ high) (or_right _ _ (subst (λ q. high_at c (is_in trusted h) (slice_get x.procs q) ≡ true) f.0 (here_high x p y e high))))
-  quiet_ask x p y (Do a r g) e high f safe m = absurd (grind arith)
-  quiet_ask x p y (Judge m) e high f safe k =
-      quiet_proc c trusted plan h x p (told_judged m (attached s (host_plan plan h) x.desk m) (judged s (host_plan plan h) x.desk m)) (here_high x p y e high)
-      (high_map c (is_in trusted h) _ (λ z. high_stays c (is_in trusted h) z (told_judged m (attached s (host_plan plan h) x.desk m) (judged s (host_plan plan h) x.desk m) z) (judged_stays c m _ _ z)) _ (here_high x p y e high))
+  quiet_ask x p y (PublicAct a r g) e high f safe m = absurd (grind arith)
+  quiet_ask x p y (AsksJudgement m) e high f safe k =
+      quiet_proc c trusted plan h x p (judged_after_reply m (attached s (host_plan plan h) x.desk m) (judged s (host_plan plan h) x.desk m)) (here_high x p y e high)
+      (high_map c (is_in trusted h) _ (λ z. high_stays c (is_in trusted h) z (judged_after_reply m (attached s (host_plan plan h) x.desk m) (judged s (host_plan plan h) x.desk m) z) (judged_stays c m _ _ z)) _ (here_high x p y e high))
 
   pub quiet_step : (x : Host) (p : ℕ) (o : Option Process) → slice_get x.procs p ≡ o → SafeHands c trusted plan h x → mark_proc c (is_in trusted h) (host_plan plan h) h p o ≡ High → AlikeHosts c trusted plan h x (step_proc s (host_plan plan h) x p o)
   quiet_step x p None e safe m = alike_self c trusted plan h x
@@ -133,22 +133,22 @@ module _ (s : Scheme) (c : Category) (secret : is_secrecy c.kind ≡ true) (trus
   module _ (x y : Host) (alike : AlikeHosts c trusted plan h x y) (p : ℕ) where
     -- one process that isn't High, the same on both sides
     low_ask : (z : Process) (a : Ask) → slice_get x.procs p ≡ Some z → slice_get y.procs p ≡ Some z → high_proc c (is_in trusted h) z ≡ false → AskFacts (host_plan plan h) p z a → AlikeHosts c trusted plan h (perform s (host_plan plan h) x p a) (perform s (host_plan plan h) y p a)
-    low_ask z Stay e e' low f = alike
-    low_ask z (Alone next) e e' low f = both_alone c trusted plan h x y alike p (λ _. next) (λ _. next) (inl (ap (option_map (λ _. next)) (e ∙ sym e'))) (low_mono c (is_in trusted h) x.procs p _ z e low) (low_mono c (is_in trusted h) y.procs p _ z e' low)
+    low_ask z Waits e e' low f = alike
+    low_ask z (Internal next) e e' low f = both_alone c trusted plan h x y alike p (λ _. next) (λ _. next) (inl (ap (option_map (λ _. next)) (e ∙ sym e'))) (low_mono c (is_in trusted h) x.procs p _ z e low) (low_mono c (is_in trusted h) y.procs p _ z e' low)
     low_ask z (Put b m next) e e' low f = both_box c trusted plan h x y alike p (λ _. next) (λ _. next) (inl (ap (option_map (λ _. next)) (e ∙ sym e'))) (low_mono c (is_in trusted h) x.procs p _ z e low) (low_mono c (is_in trusted h) y.procs p _ z e' low) b (put (box_plan (host_plan plan h) b).room m)
     low_ask z (Admit l m next) e e' low f = both_queue c trusted plan h x y alike p (λ _. next) (λ _. next) (inl (ap (option_map (λ _. next)) (e ∙ sym e'))) (low_mono c (is_in trusted h) x.procs p _ z e low) (low_mono c (is_in trusted h) y.procs p _ z e' low) l (admit (lane_plan (host_plan plan h) l).room (record { sender = p; message = m })) (admitted_lines (lane_plan (host_plan plan h) l).room (record { sender = p; message = m }))
     low_ask z (TakeFrom b r slot) e e' low f =
-        both_box c trusted plan h x y alike p (told_taken r slot (oldest_in (slice_get x.boxes b))) (told_taken r slot (oldest_in (slice_get y.boxes b)))
-        (inl (ap₂ (λ o q. option_map (told_taken r slot (oldest_in o)) q) (low_box c secret (is_in trusted h) (host_plan plan h) x.procs p z b f.0 f.1 e low (alike.boxes b)) (e ∙ sym e')))
+        both_box c trusted plan h x y alike p (taken_after_reply r slot (oldest_in (slice_get x.boxes b))) (taken_after_reply r slot (oldest_in (slice_get y.boxes b)))
+        (inl (ap₂ (λ o q. option_map (taken_after_reply r slot (oldest_in o)) q) (low_box c secret (is_in trusted h) (host_plan plan h) x.procs p z b f.0 f.1 e low (alike.boxes b)) (e ∙ sym e')))
         (low_mono c (is_in trusted h) x.procs p _ z e low) (low_mono c (is_in trusted h) y.procs p _ z e' low) b took
-    low_ask z (Do a r g) e e' low f =
-        both_desk c trusted plan h x y alike p (told_act r g a (reply_of s (host_plan plan h) x.desk (act_entry s (host_plan plan h) x.desk a))) (told_act r g a (reply_of s (host_plan plan h) y.desk (act_entry s (host_plan plan h) y.desk a)))
-        (inl (ap₂ (λ d o. option_map (told_act r g a (reply_of s (host_plan plan h) d (act_entry s (host_plan plan h) d a))) o) alike.desk (e ∙ sym e')))
+    low_ask z (PublicAct a r g) e e' low f =
+        both_desk c trusted plan h x y alike p (act_after_reply r g a (reply_of s (host_plan plan h) x.desk (act_entry s (host_plan plan h) x.desk a))) (act_after_reply r g a (reply_of s (host_plan plan h) y.desk (act_entry s (host_plan plan h) y.desk a)))
+        (inl (ap₂ (λ d o. option_map (act_after_reply r g a (reply_of s (host_plan plan h) d (act_entry s (host_plan plan h) d a))) o) alike.desk (e ∙ sym e')))
         (low_mono c (is_in trusted h) x.procs p _ z e low) (low_mono c (is_in trusted h) y.procs p _ z e' low)
         (desk_after (host_plan plan h).key (act_entry s (host_plan plan h) x.desk a) x.desk) (desk_after (host_plan plan h).key (act_entry s (host_plan plan h) y.desk a) y.desk) (ap (λ d. (desk_after (host_plan plan h).key (act_entry s (host_plan plan h) d a) d)) alike.desk)
-    low_ask z (Judge m) e e' low f =
-        both_alone c trusted plan h x y alike p (told_judged m (attached s (host_plan plan h) x.desk m) (judged s (host_plan plan h) x.desk m)) (told_judged m (attached s (host_plan plan h) y.desk m) (judged s (host_plan plan h) y.desk m))
-        (inl (ap₂ (λ d o. option_map (told_judged m (attached s (host_plan plan h) d m) (judged s (host_plan plan h) d m)) o) alike.desk (e ∙ sym e')))
+    low_ask z (AsksJudgement m) e e' low f =
+        both_alone c trusted plan h x y alike p (judged_after_reply m (attached s (host_plan plan h) x.desk m) (judged s (host_plan plan h) x.desk m)) (judged_after_reply m (attached s (host_plan plan h) y.desk m) (judged s (host_plan plan h) y.desk m))
+        (inl (ap₂ (λ d o. option_map (judged_after_reply m (attached s (host_plan plan h) d m) (judged s (host_plan plan h) d m)) o) alike.desk (e ∙ sym e')))
         (low_mono c (is_in trusted h) x.procs p _ z e low) (low_mono c (is_in trusted h) y.procs p _ z e' low)
 
     -- two High processes that release the same
@@ -156,8 +156,8 @@ module _ (s : Scheme) (c : Category) (secret : is_secrecy c.kind ≡ true) (trus
       mono_by : (w : Host) (z : Process) → slice_get w.procs p ≡ Some z → high_proc c (is_in trusted h) z ≡ true → (next : Process) → Follows z next → Mono c (is_in trusted h) w.procs (at p (λ _. next) w.procs)
       mono_by w z q hz next f = mono_at c (is_in trusted h) p (λ _. next) w.procs (λ _. next_high w p z next q hz f)
 
-      act_high : (w : Host) (z : Process) → slice_get w.procs p ≡ Some z → high_proc c (is_in trusted h) z ≡ true → (r g : ℕ) (a : Act) (reply : Reply) → high_at c (is_in trusted h) (option_map (told_act r g a reply) (slice_get w.procs p)) ≡ true
-      act_high w z q hz r g a reply = high_map c (is_in trusted h) (told_act r g a reply) (λ i. high_stays c (is_in trusted h) i (told_act r g a reply i) (act_stays c r g a reply i)) (slice_get w.procs p) (here_high w p z q hz)
+      act_high : (w : Host) (z : Process) → slice_get w.procs p ≡ Some z → high_proc c (is_in trusted h) z ≡ true → (r g : ℕ) (a : Act) (reply : Reply) → high_at c (is_in trusted h) (option_map (act_after_reply r g a reply) (slice_get w.procs p)) ≡ true
+      act_high w z q hz r g a reply = high_map c (is_in trusted h) (act_after_reply r g a reply) (λ i. high_stays c (is_in trusted h) i (act_after_reply r g a reply i) (act_stays c r g a reply i)) (slice_get w.procs p) (here_high w p z q hz)
 
       both_put : (b : ℕ) (m : Mail Category) (n n' : Process) → Follows u n → Follows v n' → AlikeHosts c trusted plan h (perform s (host_plan plan h) x p (Put b m n)) (perform s (host_plan plan h) y p (Put b m n'))
       both_put b m n n' f f' = both_box c trusted plan h x y alike p (λ _. n) (λ _. n') (inr (next_high x p u n e hu f, next_high y p v n' e' hv f')) (mono_by x u e hu n f) (mono_by y v e' hv n' f') b (put (box_plan (host_plan plan h) b).room m)
@@ -165,11 +165,11 @@ module _ (s : Scheme) (c : Category) (secret : is_secrecy c.kind ≡ true) (trus
       both_admit : (l : ℕ) (m : Message) (n n' : Process) → Follows u n → Follows v n' → AlikeHosts c trusted plan h (perform s (host_plan plan h) x p (Admit l m n)) (perform s (host_plan plan h) y p (Admit l m n'))
       both_admit l m n n' f f' = both_queue c trusted plan h x y alike p (λ _. n) (λ _. n') (inr (next_high x p u n e hu f, next_high y p v n' e' hv f')) (mono_by x u e hu n f) (mono_by y v e' hv n' f') l (admit (lane_plan (host_plan plan h) l).room (record { sender = p; message = m })) (admitted_lines (lane_plan (host_plan plan h) l).room (record { sender = p; message = m }))
 
-      both_do : (a : Act) (r g r' g' : ℕ) → AlikeHosts c trusted plan h (perform s (host_plan plan h) x p (Do a r g)) (perform s (host_plan plan h) y p (Do a r' g'))
-      both_do a r g r' g' = both_desk c trusted plan h x y alike p (told_act r g a (reply_of s (host_plan plan h) x.desk (act_entry s (host_plan plan h) x.desk a))) (told_act r' g' a (reply_of s (host_plan plan h) y.desk (act_entry s (host_plan plan h) y.desk a)))
+      both_do : (a : Act) (r g r' g' : ℕ) → AlikeHosts c trusted plan h (perform s (host_plan plan h) x p (PublicAct a r g)) (perform s (host_plan plan h) y p (PublicAct a r' g'))
+      both_do a r g r' g' = both_desk c trusted plan h x y alike p (act_after_reply r g a (reply_of s (host_plan plan h) x.desk (act_entry s (host_plan plan h) x.desk a))) (act_after_reply r' g' a (reply_of s (host_plan plan h) y.desk (act_entry s (host_plan plan h) y.desk a)))
           (inr (act_high x u e hu r g a (reply_of s (host_plan plan h) x.desk (act_entry s (host_plan plan h) x.desk a)), act_high y v e' hv r' g' a (reply_of s (host_plan plan h) y.desk (act_entry s (host_plan plan h) y.desk a))))
-          (mono_at c (is_in trusted h) p (told_act r g a (reply_of s (host_plan plan h) x.desk (act_entry s (host_plan plan h) x.desk a))) x.procs (λ _. act_high x u e hu r g a (reply_of s (host_plan plan h) x.desk (act_entry s (host_plan plan h) x.desk a))))
-          (mono_at c (is_in trusted h) p (told_act r' g' a (reply_of s (host_plan plan h) y.desk (act_entry s (host_plan plan h) y.desk a))) y.procs (λ _. act_high y v e' hv r' g' a (reply_of s (host_plan plan h) y.desk (act_entry s (host_plan plan h) y.desk a))))
+          (mono_at c (is_in trusted h) p (act_after_reply r g a (reply_of s (host_plan plan h) x.desk (act_entry s (host_plan plan h) x.desk a))) x.procs (λ _. act_high x u e hu r g a (reply_of s (host_plan plan h) x.desk (act_entry s (host_plan plan h) x.desk a))))
+          (mono_at c (is_in trusted h) p (act_after_reply r' g' a (reply_of s (host_plan plan h) y.desk (act_entry s (host_plan plan h) y.desk a))) y.procs (λ _. act_high y v e' hv r' g' a (reply_of s (host_plan plan h) y.desk (act_entry s (host_plan plan h) y.desk a))))
           (desk_after (host_plan plan h).key (act_entry s (host_plan plan h) x.desk a) x.desk) (desk_after (host_plan plan h).key (act_entry s (host_plan plan h) y.desk a) y.desk) (ap (λ d. (desk_after (host_plan plan h).key (act_entry s (host_plan plan h) d a) d)) alike.desk)
 
       release_put : (b : ℕ) (m : Mail Category) (n : Process) (a : Ask) → Follows u n → AskFacts (host_plan plan h) p v a → (next : Process) × (a ≡ Put b m next) → AlikeHosts c trusted plan h (perform s (host_plan plan h) x p (Put b m n)) (perform s (host_plan plan h) y p a)
@@ -178,8 +178,8 @@ module _ (s : Scheme) (c : Category) (secret : is_secrecy c.kind ≡ true) (trus
       release_admit : (l : ℕ) (m : Message) (n : Process) (a : Ask) → Follows u n → AskFacts (host_plan plan h) p v a → (next : Process) × (a ≡ Admit l m next) → AlikeHosts c trusted plan h (perform s (host_plan plan h) x p (Admit l m n)) (perform s (host_plan plan h) y p a)
       release_admit l m n a f g (next, is) = subst (λ a'. AlikeHosts c trusted plan h (perform s (host_plan plan h) x p (Admit l m n)) (perform s (host_plan plan h) y p a')) (sym is) (both_admit l m n next f (subst (AskFacts (host_plan plan h) p v) is g).0)
 
-      release_do : (a : Act) (r g : ℕ) (k : Ask) → (r' : ℕ) × (g' : ℕ) × (k ≡ Do a r' g') → AlikeHosts c trusted plan h (perform s (host_plan plan h) x p (Do a r g)) (perform s (host_plan plan h) y p k)
-      release_do a r g k (r', g', is) = subst (λ a'. AlikeHosts c trusted plan h (perform s (host_plan plan h) x p (Do a r g)) (perform s (host_plan plan h) y p a')) (sym is) (both_do a r g r' g')
+      release_do : (a : Act) (r g : ℕ) (k : Ask) → (r' : ℕ) × (g' : ℕ) × (k ≡ PublicAct a r' g') → AlikeHosts c trusted plan h (perform s (host_plan plan h) x p (PublicAct a r g)) (perform s (host_plan plan h) y p k)
+      release_do a r g k (r', g', is) = subst (λ a'. AlikeHosts c trusted plan h (perform s (host_plan plan h) x p (PublicAct a r g)) (perform s (host_plan plan h) y p a')) (sym is) (both_do a r g r' g')
 
       release_mail : (b : ℕ) (m : Mail Category) (n : Process) (a : Ask) (k : Bool) → Follows u n → AskFacts (host_plan plan h) p v a → unless_has k (ToBox b m) ≡ released c a → unless_has k (ToBox b m) ≢ None → AlikeHosts c trusted plan h (perform s (host_plan plan h) x p (Put b m n)) (perform s (host_plan plan h) y p a)
       release_mail b m n a true f g eq low = absurd (low refl)
@@ -192,11 +192,11 @@ module _ (s : Scheme) (c : Category) (secret : is_secrecy c.kind ≡ true) (trus
       release : (a a' : Ask) → AskFacts (host_plan plan h) p u a → AskFacts (host_plan plan h) p v a' → released c a ≡ released c a' → released c a ≢ None → AlikeHosts c trusted plan h (perform s (host_plan plan h) x p a) (perform s (host_plan plan h) y p a')
       release (Put b m n) a' f g eq low = release_mail b m n a' (has by_name c m.label) f.0 g eq low
       release (Admit l m n) a' f g eq low = release_message l m n a' (has by_name c m.label) f.0 g eq low
-      release (Do a r i) a' f g eq low = release_do a r i a' (do_released c a a' (sym eq))
-      release Stay a' f g eq low = absurd (low refl)
-      release (Alone next) a' f g eq low = absurd (low refl)
+      release (PublicAct a r i) a' f g eq low = release_do a r i a' (do_released c a a' (sym eq))
+      release Waits a' f g eq low = absurd (low refl)
+      release (Internal next) a' f g eq low = absurd (low refl)
       release (TakeFrom b r slot) a' f g eq low = absurd (low refl)
-      release (Judge m) a' f g eq low = absurd (low refl)
+      release (AsksJudgement m) a' f g eq low = absurd (low refl)
 
     -- the step of one process with equal marks
     same_procs : (u v : Process) → slice_get x.procs p ≡ Some u → slice_get y.procs p ≡ Some v → Alike (high_at c (is_in trusted h) (Some u)) (high_at c (is_in trusted h) (Some v)) (Some u) (Some v) →

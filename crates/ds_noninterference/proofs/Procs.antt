@@ -10,7 +10,7 @@ use Rattle.ds_model.specs.ProcessRules.{can_grant}
 use Rattle.ds_model.specs.Plan.{HostPlan, Plan, host_plan, box_plan}
 use Rattle.ds_model.specs.Desk.{Desk, Act, Reply}
 use Rattle.ds_model.specs.World.{Process, Mail, Mailbox, Queue, LaneLine, Host}
-use Rattle.ds_model.specs.Asking.{told_taken, told_act, told_judged}
+use Rattle.ds_model.specs.ProcessStep.{taken_after_reply, act_after_reply, judged_after_reply}
 use Rattle.ds_model.specs.Step.{lined}
 use Rattle.ds_noninterference.specs.High.{is_in, high_proc, high_at, high_box}
 use Rattle.ds_noninterference.specs.Alike.{Alike, Hidden, AlikeProcs, AlikeHosts}
@@ -47,7 +47,7 @@ Stays c x y = (has by_name c x.label || has by_name c x.own) ≡ true → (has b
 pub high_stays : (c : Category) (t : Bool) (x y : Process) → Stays c x y → high_proc c t x ≡ true → high_proc c t y ≡ true
 high_stays c t x y s h = and_both _ _ (and_left _ _ h) (s (and_right _ _ h))
 
-pub taken_stays : (c : Category) (reg slot : ℕ) (o : Option (Mail Category)) (x : Process) → Stays c x (told_taken reg slot o x)
+pub taken_stays : (c : Category) (reg slot : ℕ) (o : Option (Mail Category)) (x : Process) → Stays c x (taken_after_reply reg slot o x)
 taken_stays c reg slot None x h = h
 taken_stays c reg slot (Some m) x h = cond_case (λ z. (has by_name c z.label || has by_name c z.own) ≡ true) (can_grant by_name x.own x.clear m.own m.clear) (record x { own = union by_name x.own m.own; clear = union by_name x.clear m.clear }) x (λ _. go (or_cases _ _ h)) (λ _. h)
   where
@@ -55,10 +55,10 @@ taken_stays c reg slot (Some m) x h = cond_case (λ z. (has by_name c z.label ||
     go (inl l) = or_left _ _ l
     go (inr o) = or_right _ _ (union_keeps c x.own m.own o)
 
-pub act_stays : (c : Category) (reg host : ℕ) (a : Act) (o : Reply) (x : Process) → Stays c x (told_act reg host a o x)
+pub act_stays : (c : Category) (reg host : ℕ) (a : Act) (o : Reply) (x : Process) → Stays c x (act_after_reply reg host a o x)
 act_stays c reg host a o x h = h
 
-pub judged_stays : (c : Category) (m : Message) (certs : List (List ℕ)) (o : Option Rule) (x : Process) → Stays c x (told_judged m certs o x)
+pub judged_stays : (c : Category) (m : Message) (certs : List (List ℕ)) (o : Option Rule) (x : Process) → Stays c x (judged_after_reply m certs o x)
 judged_stays c m certs (Some rule) x h = h
 judged_stays c m certs None x h = h
 

@@ -6,11 +6,11 @@ use Rattle.ds_label.specs.Flow.{has}
 use Rattle.ds_label.specs.Names.{by_name}
 use Rattle.ds_model.specs.Keys.{same_key}
 use Rattle.ds_model.specs.Scheme.{Scheme}
-use Rattle.ds_model.specs.Plan.{Plan, OfLane, IsHost, IsLane, host_plan, wire, lane_plan, no_host, no_lane}
+use Rattle.ds_model.specs.Plan.{Plan, OfLane, IsHost, IsLane, host_plan, conn_plan, lane_plan, no_host, no_lane}
 use Rattle.ds_model.specs.World.{World}
 use Rattle.ds_model.specs.Step.{Event, step}
 use Rattle.ds_noninterference.specs.High.{is_in, high_lane, trusted_key, IsTrusted}
-use Rattle.ds_noninterference.specs.Marks.{Along}
+use Rattle.ds_noninterference.specs.Observations.{Along}
 use Rattle.ds_noninterference.specs.Premises.{Fits, IssuesInside, NothingForged, Obeys}
 use Rattle.std.proofs.lemmas.List.{get_or_past}
 use Rattle.ds_noninterference.proofs.Flow.{and_left, and_right, or_cases, or_left, or_right, key_same}
@@ -18,14 +18,14 @@ use Rattle.ds_noninterference.proofs.Flow.{and_left, and_right, or_cases, or_lef
 -- what setup and the trusted hosts give together
 pub record Setting (c : Category) (trusted : List ℕ) (plan : Plan) : Type 0 where
   -- a lane's connection is that of a lane, and stands at the certificate's receiver
-  pub real : (k h l : ℕ) → (wire plan k).source ≡ OfLane h l → IsLane plan h l
-  pub ends : (k h l : ℕ) → (wire plan k).source ≡ OfLane h l → (host_plan plan (wire plan k).host).key ≡ (lane_plan (host_plan plan h) l).cert.receiver
+  pub real : (k h l : ℕ) → (conn_plan plan k).source ≡ OfLane h l → IsLane plan h l
+  pub ends : (k h l : ℕ) → (conn_plan plan k).source ≡ OfLane h l → (host_plan plan (conn_plan plan k).host).key ≡ (lane_plan (host_plan plan h) l).cert.receiver
   -- exporter and number determine a high lane
   pub lanes : (h l g j : ℕ) → high_lane c trusted plan h l ≡ true → IsLane plan g j → (lane_plan (host_plan plan g) j).cert.exporter ≡ (lane_plan (host_plan plan h) l).cert.exporter → (lane_plan (host_plan plan g) j).cert.lane ≡ (lane_plan (host_plan plan h) l).cert.lane → (g ≡ h) × (j ≡ l)
   -- its certificate names a trusted host
   pub by : (h l : ℕ) → high_lane c trusted plan h l ≡ true → IsTrusted trusted plan (lane_plan (host_plan plan h) l).cert.exporter
   -- a lane's connection to a trusted key leads to a trusted host
-  pub outsiders : (k h l : ℕ) → (wire plan k).source ≡ OfLane h l → IsTrusted trusted plan (host_plan plan (wire plan k).host).key → is_in trusted (wire plan k).host ≡ true
+  pub outsiders : (k h l : ℕ) → (conn_plan plan k).source ≡ OfLane h l → IsTrusted trusted plan (host_plan plan (conn_plan plan k).host).key → is_in trusted (conn_plan plan k).host ≡ true
   pub creator : IsTrusted trusted plan c.creator
 
 -- and what holds at each world of a run
@@ -72,6 +72,6 @@ setting s c trusted plan w events fits obeys = record {
   ends = λ k h l e. (fits.ends k h l e).2;
   lanes = λ h l g j high is by number. fits.lanes g j h l is (lane_within c trusted plan h l high) by number;
   by = λ h l high. subst (IsTrusted trusted plan) (sym (fits.by h l (lane_within c trusted plan h l high))) (trusted_host trusted plan h (and_left _ _ high));
-  outsiders = λ k h l e t. obeys.alone (wire plan k).host (fits.ends k h l e).1 t;
+  outsiders = λ k h l e t. obeys.alone (conn_plan plan k).host (fits.ends k h l e).1 t;
   creator = obeys.creator;
 }

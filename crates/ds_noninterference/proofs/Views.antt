@@ -5,7 +5,7 @@ use Rattle.ds_label.specs.declared.category.Category.{Category}
 use Rattle.ds_label.specs.Names.{is_secrecy}
 use Rattle.ds_model.specs.Lists.{gathered}
 use Rattle.ds_model.specs.Scheme.{Scheme}
-use Rattle.ds_model.specs.Plan.{Plan, Source, Link, OfLane, wire}
+use Rattle.ds_model.specs.Plan.{Plan, Source, Link, OfLane, conn_plan}
 use Rattle.ds_model.specs.World.{Conn, Host, World}
 use Rattle.ds_model.specs.Step.{stream_of, run}
 use Rattle.ds_model.specs.Views.{proc_in, proc_at, proc_view, view_of_proc, desk_at, arrived_in, arrived_at, arrived_to, view_of_host, host_view}
@@ -55,18 +55,18 @@ module _ (s : Scheme) (c : Category) (secret : is_secrecy c.kind ≡ true) (trus
   pub desk_views : (v w : World) → AlikeWorlds c trusted plan v w → (h : ℕ) → desk_at v h ≡ desk_at w h
   desk_views v w r h = desk_same h _ _ (r.hosts h)
 
-  arrived_same : (v w : World) (k : ℕ) (o q : Option Conn) → o ≡ q → ((y : Conn) → stream_of v (wire plan k).source y ≡ stream_of w (wire plan k).source y) → arrived_in plan v k o ≡ arrived_in plan w k q
+  arrived_same : (v w : World) (k : ℕ) (o q : Option Conn) → o ≡ q → ((y : Conn) → stream_of v (conn_plan plan k).source y ≡ stream_of w (conn_plan plan k).source y) → arrived_in plan v k o ≡ arrived_in plan w k q
   arrived_same v w k None q e f = ap (arrived_in plan w k) e
   arrived_same v w k (Some y) q e f = ap (λ bytes. take y.count bytes ∷ []) (f y) ∙ ap (arrived_in plan w k) e
 
   pub arrived_views : (v w : World) → AlikeWorlds c trusted plan v w → (k : ℕ) → high_conn c trusted plan k ≡ false → arrived_at plan v k ≡ arrived_at plan w k
-  arrived_views v w r k low = arrived_same v w k _ _ (same_conns s c trusted plan is secret fits v w r k low) (λ y. same_stream s c trusted plan is secret fits v w r k (wire plan k).source y refl low)
+  arrived_views v w r k low = arrived_same v w k _ _ (same_conns s c trusted plan is secret fits v w r k low) (λ y. same_stream s c trusted plan is secret fits v w r k (conn_plan plan k).source y refl low)
 
   arrived_there : (v w : World) → AlikeWorlds c trusted plan v w → (h : ℕ) → is_in trusted h ≡ false → arrived_to plan v h ≡ arrived_to plan w h
-  arrived_there v w r h low = gathered_same _ _ (length plan.wires) (λ k. go k (eqb (wire plan k).host h) refl)
+  arrived_there v w r h low = gathered_same _ _ (length plan.conn_plans) (λ k. go k (eqb (conn_plan plan k).host h) refl)
     where
-      go : (k : ℕ) (z : Bool) → eqb (wire plan k).host h ≡ z → (if z then arrived_at plan v k else []) ≡ (if z then arrived_at plan w k else [])
-      go k true e = arrived_views v w r k (source_low c trusted plan (wire plan k).host (wire plan k).source (ap (is_in trusted) (eqb-true _ _ e) ∙ low))
+      go : (k : ℕ) (z : Bool) → eqb (conn_plan plan k).host h ≡ z → (if z then arrived_at plan v k else []) ≡ (if z then arrived_at plan w k else [])
+      go k true e = arrived_views v w r k (source_low c trusted plan (conn_plan plan k).host (conn_plan plan k).source (ap (is_in trusted) (eqb-true _ _ e) ∙ low))
       go k false e = refl
 
   pub host_views : (v w : World) → AlikeWorlds c trusted plan v w → (h : ℕ) → is_in trusted h ≡ false → view_of_host plan v h ≡ view_of_host plan w h

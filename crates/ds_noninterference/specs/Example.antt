@@ -9,8 +9,8 @@ use Rattle.ds_model.specs.Plan.{HostPlan, BoxPlan, Plan, no_signing}
 use Rattle.ds_model.specs.World.{Process, World}
 use Rattle.ds_model.specs.Step.{Event, Step, run}
 use Rattle.ds_model.specs.Views.{proc_at}
-use Rattle.ds_model.specs.SmallWorlds.{empty_scheme, only_key, a_secret, a_mail}
-use Rattle.ds_noninterference.specs.Marks.{Release, ToBox, Low, marks}
+use Rattle.ds_model.specs.Examples.OneHost.{empty_scheme, only_key, a_secret, a_mail}
+use Rattle.ds_noninterference.specs.Observations.{Release, ToBox, Low, marks}
 use Rattle.ds_noninterference.specs.Law.{Premises}
 
 -- a host with two processes and a mailbox of the second, without a label
@@ -23,7 +23,7 @@ pair_host = record { key = only_key; silent = false; signing = no_signing; keys 
 
 -- the plan of that host alone
 abbrev pub pair : Plan
-pair = record { hosts = pair_host ∷ []; wires = [] }
+pair = record { hosts = pair_host ∷ []; conn_plans = [] }
 
 -- a process that owns what its label has
 abbrev pub process : List Op → (label : List Category) → Process
@@ -65,8 +65,8 @@ abbrev pub second_events : List Event
 second_events = Step 0 0 ∷ Step 0 0 ∷ Step 0 0 ∷ Step 0 0 ∷ Step 0 1 ∷ Step 0 1 ∷ []
 
 -- they meet the premises
-abbrev pub IsMet : Type 0
-IsMet = Premises empty_scheme a_secret (0 ∷ []) pair (pair_world first_script) (pair_world second_script) first_events second_events
+abbrev pub PremisesHold : Type 0
+PremisesHold = Premises empty_scheme a_secret (0 ∷ []) pair (pair_world first_script) (pair_world second_script) first_events second_events
 
 -- the marks of both runs: the release, and the steps of the second process
 abbrev pub IsMarked : Type 0

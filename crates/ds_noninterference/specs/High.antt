@@ -7,7 +7,7 @@ use Rattle.std.specs.List.{list_any}
 use Rattle.ds_label.specs.Flow.{has}
 use Rattle.ds_label.specs.Names.{by_name}
 use Rattle.ds_model.specs.Keys.{same_key}
-use Rattle.ds_model.specs.Plan.{HostPlan, Plan, Source, Link, OfLane, host_plan, wire, box_plan, lane_plan, inlet_name}
+use Rattle.ds_model.specs.Plan.{HostPlan, Plan, Source, Link, OfLane, host_plan, conn_plan, box_plan, lane_plan, inlet_name}
 use Rattle.ds_model.specs.World.{Process}
 
 -- whether a host is among the trusted ones
@@ -38,7 +38,7 @@ high_source c trusted plan r (OfLane h l) = high_lane c trusted plan h l && is_i
 
 -- connection k
 abbrev pub high_conn : Category → List ℕ → Plan → (conn : ℕ) → Bool
-high_conn c trusted plan k = high_source c trusted plan (wire plan k).host (wire plan k).source
+high_conn c trusted plan k = high_source c trusted plan (conn_plan plan k).host (conn_plan plan k).source
 
 -- an inlet of a trusted host that counts the frames of a high lane to it
 pub record HighInlet (c : Category) (trusted : List ℕ) (plan : Plan) (r i : ℕ) : Type 0 where

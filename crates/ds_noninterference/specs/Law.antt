@@ -9,7 +9,7 @@ use Rattle.ds_model.specs.Step.{Event, run}
 use Rattle.ds_model.specs.Views.{proc_at, view_of_proc, view_of_host, desk_at, arrived_at}
 use Rattle.ds_model.specs.Text.{Format}
 use Rattle.ds_noninterference.specs.High.{is_in, high_at, high_conn}
-use Rattle.ds_noninterference.specs.Marks.{marks}
+use Rattle.ds_noninterference.specs.Observations.{marks}
 use Rattle.ds_noninterference.specs.Alike.{AlikeWorlds}
 use Rattle.ds_noninterference.specs.Premises.{IsScheme, Fits, AtStart, Obeys, Unforged}
 use Rattle.ds_noninterference.specs.Outside.{outside_sections}

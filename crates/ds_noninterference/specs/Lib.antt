@@ -1,5 +1,5 @@
 pub mod High
-pub mod Marks
+pub mod Observations
 pub mod Alike
 pub mod Premises
 pub mod Outside

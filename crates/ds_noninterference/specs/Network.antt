@@ -21,9 +21,9 @@ use Rattle.ds_model.specs.Desk.{Desk}
 use Rattle.ds_model.specs.World.{Process, Worker, Host, World}
 use Rattle.ds_model.specs.Step.{Event, Step, Frame, Arrive, Accept, Deliver, Tick, Inject, Copy, run}
 use Rattle.ds_model.specs.Views.{proc_at}
-use Rattle.ds_model.specs.SmallWorlds.{empty_scheme, new_conn}
-use Rattle.ds_model.specs.Carried.{an_address}
-use Rattle.ds_noninterference.specs.Marks.{Mark, Release, ToLane, Low, marks}
+use Rattle.ds_model.specs.Examples.OneHost.{empty_scheme, new_conn}
+use Rattle.ds_model.specs.Examples.TwoHosts.{an_address}
+use Rattle.ds_noninterference.specs.Observations.{Mark, Release, ToLane, Low, marks}
 use Rattle.ds_noninterference.specs.Law.{Premises}
 
 -- the keys of the two trusted hosts and of the other one
@@ -122,7 +122,7 @@ x_host = record { key = x_key; silent = false; signing = no_signing; keys = all_
 
 -- the high lane's connection, the low one's, and a link to the second host
 abbrev pub net : Plan
-net = record { hosts = a_host ∷ b_host ∷ x_host ∷ []; wires = record { host = 1; source = OfLane 0 0 } ∷ record { host = 2; source = OfLane 0 1 } ∷ record { host = 1; source = Link } ∷ [] }
+net = record { hosts = a_host ∷ b_host ∷ x_host ∷ []; conn_plans = record { host = 1; source = OfLane 0 0 } ∷ record { host = 2; source = OfLane 0 1 } ∷ record { host = 1; source = Link } ∷ [] }
 
 -- the first two hosts are trusted
 abbrev pub both : List ℕ

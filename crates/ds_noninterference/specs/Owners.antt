@@ -8,7 +8,7 @@ use Rattle.ds_model.specs.Plan.{Plan}
 use Rattle.ds_model.specs.World.{Process, World}
 use Rattle.ds_model.specs.Step.{Event, run}
 use Rattle.ds_model.specs.Views.{proc_at}
-use Rattle.ds_noninterference.specs.Marks.{Released, Release, mark}
+use Rattle.ds_noninterference.specs.Observations.{Released, Release, mark}
 use Rattle.ds_noninterference.specs.Premises.{AtStart}
 
 -- at each event of each run from setup, a process that releases owns the category

@@ -6,12 +6,12 @@ use Rattle.ds_cert.specs.declared.delegation.Delegation.{Delegation}
 use Rattle.ds_cert.specs.declared.lane.LaneCert.{LaneCert}
 use Rattle.ds_msg.specs.declared.message.Message.{Message}
 use Rattle.ds_model.specs.Scheme.{Scheme, Framed}
-use Rattle.ds_model.specs.Plan.{HostPlan, Plan, Link, OfLane, IsHost, IsLane, host_plan, wire, lane_plan}
-use Rattle.ds_model.specs.Connecting.{peer}
+use Rattle.ds_model.specs.Plan.{HostPlan, Plan, Link, OfLane, IsHost, IsLane, host_plan, conn_plan, lane_plan}
+use Rattle.ds_model.specs.ConnectionStep.{peer}
 use Rattle.ds_model.specs.World.{Process, Queue, Worker, Conn, Host, World}
 use Rattle.ds_model.specs.Step.{Event, arrived}
 use Rattle.ds_noninterference.specs.High.{is_in, high_lane, IsTrusted}
-use Rattle.ds_noninterference.specs.Marks.{Along}
+use Rattle.ds_noninterference.specs.Observations.{Along}
 
 -- THE SCHEME: the facts of chains, and of the spelling of the plan's lanes, that the law uses. They are theorems of the concrete scheme.
 pub record IsScheme (s : Scheme) (plan : Plan) : Type 0 where
@@ -27,8 +27,8 @@ pub record IsScheme (s : Scheme) (plan : Plan) : Type 0 where
 -- SETUP: what it sees to, in every plan
 pub record Fits (plan : Plan) : Type 0 where
   -- a lane's connection is that of a lane, and stands at the host whose key is the certificate's receiver
-  pub ends : (k h l : ℕ) → (wire plan k).source ≡ OfLane h l →
-      IsLane plan h l × IsHost plan (wire plan k).host × ((host_plan plan (wire plan k).host).key ≡ (lane_plan (host_plan plan h) l).cert.receiver)
+  pub ends : (k h l : ℕ) → (conn_plan plan k).source ≡ OfLane h l →
+      IsLane plan h l × IsHost plan (conn_plan plan k).host × ((host_plan plan (conn_plan plan k).host).key ≡ (lane_plan (host_plan plan h) l).cert.receiver)
   -- a lane certificate names its own host
   pub by : (h l : ℕ) → IsLane plan h l → (lane_plan (host_plan plan h) l).cert.exporter ≡ (host_plan plan h).key
   -- exporter and number determine a lane
@@ -65,11 +65,11 @@ pub record NothingForged (s : Scheme) (c : Category) (trusted : List ℕ) (plan 
   pub stores : (g : ℕ) (y : Host) (d : Delegation) → slice_get w.hosts g ≡ Some y → Contains y.desk.store d → d.category ≡ c → s.good d ≡ true → IsTrusted trusted plan d.by →
       (h : ℕ) × (x : Host) × (is_in trusted h ≡ true) × (slice_get w.hosts h ≡ Some x) × Contains x.desk.issued d
   -- a lane certificate of a trusted host's key that a link's connection read is that of a lane
-  pub certs : (k : ℕ) (y : Conn) (lane : LaneCert) → slice_get w.conns k ≡ Some y → (wire plan k).source ≡ Link → peer s (host_plan plan (wire plan k).host) (arrived w Link y) ≡ Some lane → 0 < y.taken → IsTrusted trusted plan lane.exporter →
+  pub certs : (k : ℕ) (y : Conn) (lane : LaneCert) → slice_get w.conns k ≡ Some y → (conn_plan plan k).source ≡ Link → peer s (host_plan plan (conn_plan plan k).host) (arrived w Link y) ≡ Some lane → 0 < y.taken → IsTrusted trusted plan lane.exporter →
       (h : ℕ) × (l : ℕ) × IsLane plan h l × (lane ≡ (lane_plan (host_plan plan h) l).cert)
   -- no frame that was read on a link is signed by the key of a high lane
-  pub frames : (k : ℕ) (y : Conn) (lane : LaneCert) (j number : ℕ) (messages : List Message) → slice_get w.conns k ≡ Some y → (wire plan k).source ≡ Link → peer s (host_plan plan (wire plan k).host) (arrived w Link y) ≡ Some lane →
-      slice_get (s.items (host_plan plan (wire plan k).host).key (host_plan plan (wire plan k).host).inlets (arrived w Link y)) j ≡ Some (Framed number messages) → j ≤ y.taken →
+  pub frames : (k : ℕ) (y : Conn) (lane : LaneCert) (j number : ℕ) (messages : List Message) → slice_get w.conns k ≡ Some y → (conn_plan plan k).source ≡ Link → peer s (host_plan plan (conn_plan plan k).host) (arrived w Link y) ≡ Some lane →
+      slice_get (s.items (host_plan plan (conn_plan plan k).host).key (host_plan plan (conn_plan plan k).host).inlets (arrived w Link y)) j ≡ Some (Framed number messages) → j ≤ y.taken →
       (h l : ℕ) → high_lane c trusted plan h l ≡ true → lane.key ≢ (lane_plan (host_plan plan h) l).cert.key
 
 -- at each world of the run

@@ -4,7 +4,7 @@
 
 ghost use Rattle.ds_noninterference.specs.Alike.{AlikeWorlds};
 ghost use Rattle.ds_noninterference.specs.Law.{AtEnd, SameProcesses, SameHosts, SameDesks, SameArrivals, SameSections};
-ghost use Rattle.ds_noninterference.specs.Example.{IsMet, IsMarked, IsPrinted};
+ghost use Rattle.ds_noninterference.specs.Example.{PremisesHold, IsMarked, IsPrinted};
 ghost use Rattle.ds_noninterference.specs.Owners.{OnlyOwnersRelease};
 ghost use Rattle.ds_noninterference.specs.Network.{IsNetMet, IsNetMarked, IsNetSeen};
 
@@ -24,7 +24,7 @@ pub fn two_runs()
 /// Two runs of different lengths that meet all premises, computed: a process that owns the secret of its label has a word
 /// of its own, another one in each run, and releases one word that is the same in both.
 pub fn an_example()
-    ensures met { IsMet }
+    ensures met { PremisesHold }
     ensures marked { IsMarked }
     ensures printed { IsPrinted }
 {}

@@ -18,7 +18,7 @@ use Rattle.ds_frame.specs.declared.item.Item.{Item}
 use Rattle.ds_frame.specs.declared.item.Item.TheVariants as items
 use Rattle.ds_frame.specs.Bodies.{split}
 use Rattle.ds_frame.specs.Checks.{is_good_lane_cert, is_good, begins_with, checked_cert, checked_bodies, read_hello, read_frame, read_item}
-use Rattle.ds_frame.specs.Fields.{Stop, Open, Broken}
+use Rattle.ds_frame.specs.Fields.{ReadFault, Open, Broken}
 use Rattle.ds_frame.specs.Outer.{read_outer_hello, read_outer_frame}
 use Rattle.ds_frame.specs.Ranges.{HelloFits, OuterFrameFits, BodiesRange, FrameSignatureFits}
 use Rattle.ds_frame.specs.Spelling.{outer_spelling_of_hello, OuterFrame, signed_fields, outer_spelling_of_frame, spelling_of_bodies, spelling_of_hello, spelling_of_frame}
@@ -49,7 +49,7 @@ pub record IsCut (bytes text rest : List ℕ) : Type 0 where
   pub n : ℕ
   pub parts : bytes ≡ text ++ take n rest
 
-module _ {A : Type 0} (Fits : A → Type 0) (spelling : A → List ℕ) (reading : List ℕ → Result (A × List ℕ) Stop) (is : IsSpelling Fits spelling reading) (least : ℕ) (steady : IsSteady least reading) where
+module _ {A : Type 0} (Fits : A → Type 0) (spelling : A → List ℕ) (reading : List ℕ → Result (A × List ℕ) ReadFault) (is : IsSpelling Fits spelling reading) (least : ℕ) (steady : IsSteady least reading) where
   pub cut : (x : A) (rest : List ℕ) (n : ℕ) → Fits x → (reading (take n (spelling x ++ rest)) ≡ Err Open) ⊎ IsCut (take n (spelling x ++ rest)) (spelling x) rest
   cut x rest n fits = cases (ltb n (length (spelling x))) refl
     where
@@ -67,16 +67,16 @@ module _ {A : Type 0} (Fits : A → Type 0) (spelling : A → List ℕ) (reading
 
 -- ---- hellos
 
-abbrev hello_ok : LaneCert × List ℕ → Result (LaneCert × List ℕ) Stop
+abbrev hello_ok : LaneCert × List ℕ → Result (LaneCert × List ℕ) ReadFault
 hello_ok x = Ok x
 
-abbrev frame_ok : Frame × List ℕ → Result (Frame × List ℕ) Stop
+abbrev frame_ok : Frame × List ℕ → Result (Frame × List ℕ) ReadFault
 frame_ok x = Ok x
 
-abbrev item_ok : Item × List ℕ → Result (Item × List ℕ) Stop
+abbrev item_ok : Item × List ℕ → Result (Item × List ℕ) ReadFault
 item_ok x = Ok x
 
-abbrev seen_ok : Seen → Result Seen Stop
+abbrev seen_ok : Seen → Result Seen ReadFault
 seen_ok seen = Ok seen
 
 cert_again : (lane : LaneCert) → LaneCertFits lane → read_lane_cert (spelling_of_lane_cert lane) ≡ Ok lane
@@ -84,28 +84,28 @@ unfolding read_lane_cert
 cert_again lane fits = ap (placed (spelling_of_lane_cert lane)) (alone_again LaneCertFits spelling_of_lane_cert lane_cert_at is_lane_cert lane fits)
 
 -- a value, or why there is none
-abbrev pub OkOr : Item × List ℕ → Result (Item × List ℕ) Stop → Type 0
-OkOr x r = (r ≡ Ok x) ⊎ ((stop : Stop) × (r ≡ Err stop))
+abbrev pub OkOr : Item × List ℕ → Result (Item × List ℕ) ReadFault → Type 0
+OkOr x r = (r ≡ Ok x) ⊎ ((stop : ReadFault) × (r ≡ Err stop))
 
 module _ (here : PubKey) (inlets : List InletName) where
   -- an item that stands in front was read, or nothing was
   pub data ReadOrNot (lane : Option LaneCert) (bytes : List ℕ) (item : Item) (rest : List ℕ) : Type 0 where
     WasRead : (n : ℕ) → host_reading here inlets lane bytes ≡ Ok (item, take n rest) → ReadOrNot lane bytes item rest
-    NotRead : (stop : Stop) → host_reading here inlets lane bytes ≡ Err stop → ReadOrNot lane bytes item rest
+    NotRead : (stop : ReadFault) → host_reading here inlets lane bytes ≡ Err stop → ReadOrNot lane bytes item rest
 
   either : (lane : Option LaneCert) (bytes : List ℕ) (item : Item) (rest : List ℕ) (n : ℕ) → OkOr (item, take n rest) (host_reading here inlets lane bytes) → ReadOrNot lane bytes item rest
   either lane bytes item rest n (inl e) = WasRead n e
   either lane bytes item rest n (inr e) = NotRead e.0 e.1
 
   -- what the host makes of an item
-  abbrev with_seen : Item × List ℕ → Result (Item × List ℕ) Stop
+  abbrev with_seen : Item × List ℕ → Result (Item × List ℕ) ReadFault
   with_seen x = host_item here inlets x.0 >>= λ (seen : Seen). item_ok x
 
   -- and of a hello whose outer fields were read
-  abbrev from_cert : (rest : List ℕ) → Result LaneCert Stop → Result (Item × List ℕ) Stop
+  abbrev from_cert : (rest : List ℕ) → Result LaneCert ReadFault → Result (Item × List ℕ) ReadFault
   from_cert rest r = ((r >>= λ (lane : LaneCert). hello_ok (lane, rest)) >>= λ (found : LaneCert × List ℕ). item_ok (items.Hello found.0, found.1)) >>= with_seen
 
-  abbrev from_outer_hello : Result (List ℕ × List ℕ) Stop → Result (Item × List ℕ) Stop
+  abbrev from_outer_hello : Result (List ℕ × List ℕ) ReadFault → Result (Item × List ℕ) ReadFault
   from_outer_hello r = ((r >>= λ (cert : List ℕ × List ℕ). checked_cert (read_lane_cert cert.0) >>= λ (lane : LaneCert). hello_ok (lane, cert.1)) >>= λ (found : LaneCert × List ℕ). item_ok (items.Hello found.0, found.1)) >>= with_seen
 
   hello_by : (bytes : List ℕ) → host_reading here inlets None bytes ≡ from_outer_hello (read_outer_hello bytes)
@@ -135,14 +135,14 @@ module _ (here : PubKey) (inlets : List InletName) where
           let behind = take c.n rest in
           let outer : read_outer_hello (take n (spelling_of_hello lane ++ rest)) ≡ Ok (spelling_of_lane_cert lane, behind) = ap read_outer_hello c.parts ∙ is_outer_hello.read_again (spelling_of_lane_cert lane) behind (hello_fits lane fits) in
           let read = hello_by (take n (spelling_of_hello lane ++ rest)) ∙ ap from_outer_hello outer ∙ ap (λ (r : Result LaneCert ℕ). from_cert behind (checked_cert r)) (cert_again lane fits) in
-          either None (take n (spelling_of_hello lane ++ rest)) (items.Hello lane) rest c.n (subst (λ (r : Result (Item × List ℕ) Stop). OkOr (items.Hello lane, behind) r) (sym read) (good_hello lane behind (is_good_lane_cert lane)))
+          either None (take n (spelling_of_hello lane ++ rest)) (items.Hello lane) rest c.n (subst (λ (r : Result (Item × List ℕ) ReadFault). OkOr (items.Hello lane, behind) r) (sym read) (good_hello lane behind (is_good_lane_cert lane)))
 
   -- ---- frames
 
-  abbrev from_frame : (rest : List ℕ) → Result Frame Stop → Result (Item × List ℕ) Stop
+  abbrev from_frame : (rest : List ℕ) → Result Frame ReadFault → Result (Item × List ℕ) ReadFault
   from_frame rest r = ((r >>= λ (frame : Frame). frame_ok (frame, rest)) >>= λ (found : Frame × List ℕ). item_ok (items.Frame found.0, found.1)) >>= with_seen
 
-  abbrev from_outer_frame : PubKey → Result (OuterFrame × List ℕ) Stop → Result (Item × List ℕ) Stop
+  abbrev from_outer_frame : PubKey → Result (OuterFrame × List ℕ) ReadFault → Result (Item × List ℕ) ReadFault
   from_outer_frame key r = ((r >>= λ (o : OuterFrame × List ℕ). checked_bodies key o.0 (split o.0.messages o.0.body) >>= λ (frame : Frame). frame_ok (frame, o.1)) >>= λ (found : Frame × List ℕ). item_ok (items.Frame found.0, found.1)) >>= with_seen
 
   frame_by : (lane : LaneCert) (bytes : List ℕ) → host_reading here inlets (Some lane) bytes ≡ from_outer_frame lane.key (read_outer_frame bytes)
@@ -160,10 +160,10 @@ module _ (here : PubKey) (inlets : List InletName) where
   abbrev outer_of : Frame → List ℕ → OuterFrame
   outer_of frame signature = record { number = frame.number; messages = length frame.bodies; body = spelling_of_bodies frame.bodies; signature = signature }
 
-  good_frame : (frame : Frame) (rest : List ℕ) (seen : Seen) (b c : Bool) (leaf bad : Stop) → host_item here inlets (items.Frame frame) ≡ Ok seen → OkOr (items.Frame frame, rest) (from_frame rest (cond b (cond c (Ok frame) (Err bad)) (Err leaf)))
+  good_frame : (frame : Frame) (rest : List ℕ) (seen : Seen) (b c : Bool) (leaf bad : ReadFault) → host_item here inlets (items.Frame frame) ≡ Ok seen → OkOr (items.Frame frame, rest) (from_frame rest (cond b (cond c (Ok frame) (Err bad)) (Err leaf)))
   good_frame frame rest seen false c leaf bad e = inr (leaf, refl)
   good_frame frame rest seen true false leaf bad e = inr (bad, refl)
-  good_frame frame rest seen true true leaf bad e = inl (ap (λ (r : Result Seen Stop). r >>= λ (s : Seen). item_ok (items.Frame frame, rest)) e)
+  good_frame frame rest seen true true leaf bad e = inl (ap (λ (r : Result Seen ReadFault). r >>= λ (s : Seen). item_ok (items.Frame frame, rest)) e)
 
   -- a frame, cut anywhere
   pub frame_cut : (lane : LaneCert) (frame : Frame) (signature rest : List ℕ) (n : ℕ) → IsWritten frame signature
@@ -185,5 +185,5 @@ module _ (here : PubKey) (inlets : List InletName) where
           let outer : read_outer_frame (take n (whole ++ rest)) ≡ Ok (o, behind) = ap read_outer_frame c.parts ∙ is_outer_frame.read_again o behind fits in
           let splits : split o.messages o.body ≡ Some frame.bodies = split_again frame.bodies (all_counted frame.bodies (omega (arith, is.bodies.most))) in
           let read = frame_by lane (take n (whole ++ rest)) ∙ ap (from_outer_frame lane.key) outer ∙ ap (λ (r : Option (List (List ℕ))). from_frame behind (checked_bodies lane.key o r)) splits in
-          either (Some lane) (take n (whole ++ rest)) (items.Frame frame) rest c.n (subst (λ (r : Result (Item × List ℕ) Stop). OkOr (items.Frame frame, behind) r) (sym read)
+          either (Some lane) (take n (whole ++ rest)) (items.Frame frame) rest c.n (subst (λ (r : Result (Item × List ℕ) ReadFault). OkOr (items.Frame frame, behind) r) (sym read)
           (good_frame frame behind is.seen (begins_with o.number o.signature) (is_good lane.key.0 (signed_fields o.number o.messages o.body) o.signature) (Broken causes.Leaf (13 + length o.body)) (Broken causes.Signature (13 + length o.body)) is.sees))

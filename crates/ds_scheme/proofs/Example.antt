@@ -15,7 +15,7 @@ use Rattle.ds_frame.specs.Checks.{is_good}
 use Rattle.ds_model.specs.Keys.{same_key}
 use Rattle.ds_delivery.specs.Premises.{Written, CanBeWritten}
 use Rattle.ds_delivery.proofs.Lists.{in_cases, in_none}
-use Rattle.ds_scheme.specs.Example.{key_named, public_of, unsigned_lane, signed_lane, the_lane, the_receiver, the_plan, the_message, the_frame, IsMet, IsRead}
+use Rattle.ds_scheme.specs.Example.{key_named, public_of, unsigned_lane, signed_lane, the_lane, the_receiver, the_plan, the_message, the_frame, PremisesHold, IsRead}
 use Rattle.ds_scheme.specs.Receivers.{IsReceiver}
 use Rattle.ds_scheme.specs.Spelled.{has_spelling, HasSpelledLanes}
 use Rattle.ds_scheme.specs.TheScheme.{scheme}
@@ -67,7 +67,7 @@ spelled_lanes zero (suc l) is = absurd (omega (arith, is))
 spelled_lanes (suc zero) l is = absurd (omega (arith, is))
 spelled_lanes (suc (suc h)) l is = absurd (omega (arith, is))
 
-pub is_met : IsMet
+pub is_met : PremisesHold
 is_met = (spelled_lanes, is_receiver)
 
 -- the frame can be written

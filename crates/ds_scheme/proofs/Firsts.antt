@@ -11,20 +11,20 @@ use Rattle.ds_frame.specs.declared.item.Frame.{Frame}
 use Rattle.ds_frame.specs.declared.item.Item.{Item}
 use Rattle.ds_frame.specs.declared.item.Item.TheVariants as items
 use Rattle.ds_frame.specs.Checks.{read_hello, read_frame, read_item}
-use Rattle.ds_frame.specs.Fields.{Stop, Open, Broken}
+use Rattle.ds_frame.specs.Fields.{ReadFault, Open, Broken}
 use Rattle.ds_frame.specs.Reader.{lane_after}
 use Rattle.ds_frame.specs.Streams.{Stream, read_on}
 use Rattle.ds_frame.proofs.Pieces.{step_ok, step_err}
 use Rattle.ds_model.specs.Keys.{same_key}
 use Rattle.ds_model.specs.Scheme.{InletName, Item as Seen, Hello, Framed}
-use Rattle.ds_model.specs.Connecting.{hello_of}
+use Rattle.ds_model.specs.ConnectionStep.{hello_of}
 use Rattle.ds_inlet.specs.Hosts.{inlet_at, declared_lane, messages_from, host_item, host_reading, seen_or_none, seen_of_items, items_of}
 use Rattle.ds_inlet.proofs.Steady.{steady_host}
 
-abbrev seen_ok : Seen → Result Seen Stop
+abbrev seen_ok : Seen → Result Seen ReadFault
 seen_ok seen = Ok seen
 
-abbrev item_ok : Item × List ℕ → Result (Item × List ℕ) Stop
+abbrev item_ok : Item × List ℕ → Result (Item × List ℕ) ReadFault
 item_ok x = Ok x
 
 same_some : {A : Type 0} (x y : A) → Some x ≡ Some y → x ≡ y
@@ -45,13 +45,13 @@ pub hello_item : (bytes : List ℕ) (x : Item × List ℕ) → read_item None by
 unfolding read_item
 hello_item bytes x e =
     let a = bind_ok (read_hello bytes) (λ (found : LaneCert × List ℕ). item_ok (items.Hello found.0, found.1)) x e in
-    subst (λ (y : Item × List ℕ). HelloItem bytes y) (ok_is {E = Stop} (items.Hello a.0.0, a.0.1) x a.2) (record { lane = a.0.0; read = a.1; is = refl })
+    subst (λ (y : Item × List ℕ). HelloItem bytes y) (ok_is {E = ReadFault} (items.Hello a.0.0, a.0.1) x a.2) (record { lane = a.0.0; read = a.1; is = refl })
 
 pub frame_item : (lane : LaneCert) (bytes : List ℕ) (x : Item × List ℕ) → read_item (Some lane) bytes ≡ Ok x → FrameItem lane.key bytes x
 unfolding read_item
 frame_item lane bytes x e =
     let a = bind_ok (read_frame lane.key bytes) (λ (found : Frame × List ℕ). item_ok (items.Frame found.0, found.1)) x e in
-    subst (λ (y : Item × List ℕ). FrameItem lane.key bytes y) (ok_is {E = Stop} (items.Frame a.0.0, a.0.1) x a.2) (record { frame = a.0.0; read = a.1; is = refl })
+    subst (λ (y : Item × List ℕ). FrameItem lane.key bytes y) (ok_is {E = ReadFault} (items.Frame a.0.0, a.0.1) x a.2) (record { frame = a.0.0; read = a.1; is = refl })
 
 module _ (here : PubKey) (inlets : List InletName) where
   -- an item that was read, and what the host sees of it
@@ -65,7 +65,7 @@ module _ (here : PubKey) (inlets : List InletName) where
   host_read lane bytes x e =
       let a = bind_ok (read_item lane bytes) (λ (y : Item × List ℕ). host_item here inlets y.0 >>= λ (seen : Seen). item_ok y) x e in
       let b = bind_ok (host_item here inlets a.0.0) (λ (seen : Seen). item_ok a.0) x a.2 in
-      subst (λ (y : Item × List ℕ). HostRead lane bytes y) (ok_is {E = Stop} a.0 x b.2) (record { item = a.1; seen = b.0; sees = b.1 })
+      subst (λ (y : Item × List ℕ). HostRead lane bytes y) (ok_is {E = ReadFault} a.0 x b.2) (record { item = a.1; seen = b.0; sees = b.1 })
 
   -- a host sees of a hello its lane certificate
   pub sees_hello : (lane : LaneCert) (seen : Seen) → host_item here inlets (items.Hello lane) ≡ Ok seen → seen ≡ Hello lane
@@ -73,7 +73,7 @@ module _ (here : PubKey) (inlets : List InletName) where
   sees_hello lane seen e = go (same_key lane.receiver here) (inlet_at inlets lane) e
     where
       go : (b : Bool) (o : Option ℕ) → (cond b (declared_lane lane o) (Err (Broken causes.HelloReceiver 6)) >>= λ (l : LaneCert). seen_ok (Hello l)) ≡ Ok seen → seen ≡ Hello lane
-      go true (Some i) f = sym (ok_is {E = Stop} (Hello lane) seen f)
+      go true (Some i) f = sym (ok_is {E = ReadFault} (Hello lane) seen f)
       go true None f = absurd cc
       go false o f = absurd cc
 
@@ -87,7 +87,7 @@ module _ (here : PubKey) (inlets : List InletName) where
   unfolding host_item
   sees_frame frame seen e =
       let a = bind_ok (messages_from 11 frame.bodies) (λ (ms : List Message). seen_ok (Framed frame.number ms)) seen e in
-      record { messages = a.0; read = a.1; is = sym (ok_is {E = Stop} (Framed frame.number a.0) seen a.2) }
+      record { messages = a.0; read = a.1; is = sym (ok_is {E = ReadFault} (Framed frame.number a.0) seen a.2) }
 
   -- all that the host sees from a place on
   abbrev pub seen_on : (most : ℕ) → Option LaneCert → (passed : ℕ) → List ℕ → List Seen
@@ -113,7 +113,7 @@ module _ (here : PubKey) (inlets : List InletName) where
         items = later ∙ ap (λ (front : List Seen). front ++ seen_on (suc (length x.1)) (lane_after x.0 None) behind x.1) seen ∙ ap (λ (item : Item). Hello h.lane ∷ seen_on (suc (length x.1)) (lane_after item None) behind x.1) h.is;
       }
 
-  pub first_err : (bytes : List ℕ) (stop : Stop) → host_reading here inlets None bytes ≡ Err stop → items_of here inlets bytes ≡ []
+  pub first_err : (bytes : List ℕ) (stop : ReadFault) → host_reading here inlets None bytes ≡ Err stop → items_of here inlets bytes ≡ []
   first_err bytes Open e = ap (λ (s : Stream). seen_of_items here inlets s.items) (step_err (host_reading here inlets) (steady_host here inlets) None 0 bytes Open e)
   first_err bytes (Broken cause offset) e = ap (λ (s : Stream). seen_of_items here inlets s.items) (step_err (host_reading here inlets) (steady_host here inlets) None 0 bytes (Broken cause offset) e)
 
@@ -122,7 +122,7 @@ module _ (here : PubKey) (inlets : List InletName) where
   abbrev pub first_lane : List ℕ → Option LaneCert
   first_lane bytes = hello_of (slice_get (items_of here inlets bytes) 0)
 
-  pub lane_none : (bytes : List ℕ) (stop : Stop) → host_reading here inlets None bytes ≡ Err stop → first_lane bytes ≡ None
+  pub lane_none : (bytes : List ℕ) (stop : ReadFault) → host_reading here inlets None bytes ≡ Err stop → first_lane bytes ≡ None
   lane_none bytes stop e = ap (λ (seen : List Seen). hello_of (slice_get seen 0)) (first_err bytes stop e)
 
   pub lane_some : (bytes : List ℕ) (x : Item × List ℕ) (e : host_reading here inlets None bytes ≡ Ok x) → first_lane bytes ≡ Some (first_ok bytes x e).hello.lane
@@ -145,7 +145,7 @@ module _ (here : PubKey) (inlets : List InletName) where
   pub begins_with : (bytes : List ℕ) (lane : LaneCert) → first_lane bytes ≡ Some lane → BeginsWith bytes lane
   begins_with bytes lane told = cases (host_reading here inlets None bytes) refl
     where
-      cases : (r : Result (Item × List ℕ) Stop) → host_reading here inlets None bytes ≡ r → BeginsWith bytes lane
+      cases : (r : Result (Item × List ℕ) ReadFault) → host_reading here inlets None bytes ≡ r → BeginsWith bytes lane
       cases (Ok x) e =
           let f = first_ok bytes x e in
           let same : f.hello.lane ≡ lane = same_some f.hello.lane lane (sym (lane_some bytes x e) ∙ told) in

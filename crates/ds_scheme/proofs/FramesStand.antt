@@ -19,7 +19,7 @@ use Rattle.ds_msg.specs.Spelling.{spelling_of_message}
 use Rattle.ds_msg.proofs.RecordLaws.{is_message}
 use Rattle.ds_frame.specs.declared.item.Frame.{Frame}
 use Rattle.ds_frame.specs.Checks.{read_frame}
-use Rattle.ds_frame.specs.Fields.{Stop}
+use Rattle.ds_frame.specs.Fields.{ReadFault}
 use Rattle.ds_frame.specs.Laws.{IsFrame}
 use Rattle.ds_frame.specs.Spelling.{signed_fields, spelling_of_body, spelling_of_bodies, part_of_frame, spelling_of_frame}
 use Rattle.ds_frame.proofs.ItemLaws.{frame_starts, frame_again}
@@ -55,7 +55,7 @@ frame_bytes frame signature rest fits =
 
 -- ---- messages that were read are spelled so
 
-abbrev all_read : List Message → Result (List Message) Stop
+abbrev all_read : List Message → Result (List Message) ReadFault
 all_read messages = Ok messages
 
 message_spelt : (body : List ℕ) (m : Message) → IsBytes body → read_message body ≡ Ok m → body ≡ spelling_of_message m
@@ -67,14 +67,14 @@ read_or place (Ok found) m e = cc
 read_or place (Err fault) m e = absurd cc
 
 messages_spelt : (place : ℕ) (bodies : List (List ℕ)) (found : List Message) → AllByRecursion IsBytes bodies → messages_from place bodies ≡ Ok found → bodies ≡ bodies_of found
-messages_spelt place [] found fits e = ap bodies_of (ok_is {E = Stop} [] found e)
+messages_spelt place [] found fits e = ap bodies_of (ok_is {E = ReadFault} [] found e)
 messages_spelt place (body ∷ later) found fits e =
     let next = place + 4 + length body in
     let a = bind_ok (message_or (place + 4) (read_message body)) (λ (m : Message). messages_from next later >>= λ (ms : List Message). all_read (m ∷ ms)) found e in
     let b = bind_ok (messages_from next later) (λ (ms : List Message). all_read (a.0 ∷ ms)) found a.2 in
     let first = message_spelt body a.0 fits.0 (read_or (place + 4) (read_message body) a.0 a.1) in
     let others = messages_spelt next later b.0 fits.1 b.1 in
-    ap (λ (x : List ℕ). x ∷ later) first ∙ ap (λ (xs : List (List ℕ)). spelling_of_message a.0 ∷ xs) others ∙ ap bodies_of (ok_is {E = Stop} (a.0 ∷ b.0) found b.2)
+    ap (λ (x : List ℕ). x ∷ later) first ∙ ap (λ (xs : List (List ℕ)). spelling_of_message a.0 ∷ xs) others ∙ ap bodies_of (ok_is {E = ReadFault} (a.0 ∷ b.0) found b.2)
 
 and_parts : (a b : Bool) → (a && b) ≡ true → (a ≡ true) × (b ≡ true)
 and_parts true b e = (refl, e)
@@ -93,7 +93,7 @@ module _ (key : PubKey) (number : ℕ) (messages : List Message) where
   stands_first : (bytes : List ℕ) → IsBytes bytes → is_frame_of number messages (read_frame key bytes) ≡ true → FrameStands key number messages bytes
   stands_first bytes fits e = cases (read_frame key bytes) refl e
     where
-      whole : (x : Frame × List ℕ) (found : Result (List Message) Stop) → read_frame key bytes ≡ Ok x → messages_from 11 x.0.bodies ≡ found → x.0.number ≡ number → are_spelled_as messages found ≡ true → FrameStands key number messages bytes
+      whole : (x : Frame × List ℕ) (found : Result (List Message) ReadFault) → read_frame key bytes ≡ Ok x → messages_from 11 x.0.bodies ≡ found → x.0.number ≡ number → are_spelled_as messages found ≡ true → FrameStands key number messages bytes
       whole x (Err stop) f g same told = absurd cc
       whole x (Ok found) f g same told =
           let starts = frame_starts key bytes x fits f in
@@ -103,7 +103,7 @@ module _ (key : PubKey) (number : ℕ) (messages : List Message) where
           subst (λ (frame : Frame). (IsFrame key frame starts.signature → bytes ≡ spelling_of_frame frame.number frame.bodies starts.signature ++ x.1 → FrameStands key number messages bytes)) (sym is)
           (λ signed parts. record { front = []; signature = starts.signature; rest = x.1; signed = signed; parts = parts }) starts.signed starts.parts
 
-      cases : (r : Result (Frame × List ℕ) Stop) → read_frame key bytes ≡ r → is_frame_of number messages r ≡ true → FrameStands key number messages bytes
+      cases : (r : Result (Frame × List ℕ) ReadFault) → read_frame key bytes ≡ r → is_frame_of number messages r ≡ true → FrameStands key number messages bytes
       cases (Ok x) f g = let p = and_parts (eqb x.0.number number) (are_spelled_as messages (messages_from 11 x.0.bodies)) g in whole x (messages_from 11 x.0.bodies) f refl (eqb-true x.0.number number p.0) p.1
       cases (Err stop) f g = absurd cc
 

@@ -12,7 +12,7 @@ use Rattle.ds_cert.proofs.Steps.{bind_ok, guard_ok, ok_is}
 use Rattle.ds_frame.specs.declared.cause.Cause.TheVariants as causes
 use Rattle.ds_frame.specs.declared.item.Item.TheVariants as items
 use Rattle.ds_frame.specs.Checks.{is_good_lane_cert, checked_cert, read_hello}
-use Rattle.ds_frame.specs.Fields.{Stop, Broken}
+use Rattle.ds_frame.specs.Fields.{ReadFault, Broken}
 use Rattle.ds_frame.specs.Outer.{read_outer_hello}
 use Rattle.ds_frame.specs.Spelling.{spelling_of_hello}
 use Rattle.ds_chain.specs.Delegated.{hop_of, key_holds}
@@ -21,7 +21,7 @@ use Rattle.ds_chain.proofs.Delegations.{hop_is}
 use Rattle.ds_chain.proofs.Holdings.{closed_list_has_holders}
 use Rattle.ds_chain.proofs.Numbered.{same_key_is}
 use Rattle.ds_model.specs.Plan.{HostPlan, Plan, host_plan, lane_plan}
-use Rattle.ds_model.specs.Connecting.{peer}
+use Rattle.ds_model.specs.ConnectionStep.{peer}
 use Rattle.ds_model.specs.World.{World}
 use Rattle.ds_noninterference.specs.Law.{AtEnd}
 use Rattle.ds_delivery.proofs.Delivered.{delivered_lawfully}
@@ -43,8 +43,8 @@ closed : (certs : List Delegation) (moment : ℕ) (category : Category) (inside 
     (key : PubKey) → key_holds certs moment category key ≡ true → inside key ≡ true
 closed certs moment category inside start step key held =
     closed_list_has_holders same_key same_key_is (hop_of moment category) certs category.creator (λ k. inside k ≡ true) start
-    (λ cert there hop is within.
-    let known = hop_is moment category cert hop is in
+    (λ cert there edge is within.
+    let known = hop_is moment category cert edge is in
     let signer : inside cert.by ≡ true = rw known.signer within in
     rw (← known.named) (step cert there known.counts.subject known.counts.good signer))
     key held
@@ -70,14 +70,14 @@ cert_good : (r : Result LaneCert ℕ) (lane : LaneCert) → checked_cert r ≡ O
 cert_good (Err place) lane e = absurd cc
 cert_good (Ok found) lane e =
     let g = guard_ok (is_good_lane_cert found) (Broken causes.HelloSignature 6) (Ok found) lane e in
-    subst (λ (l : LaneCert). is_good_lane_cert l ≡ true) (ok_is {E = Stop} found lane g.1) g.0
+    subst (λ (l : LaneCert). is_good_lane_cert l ≡ true) (ok_is {E = ReadFault} found lane g.1) g.0
 
 hello_good : (bytes rest : List ℕ) (lane : LaneCert) → read_hello bytes ≡ Ok (lane, rest) → is_good_lane_cert lane ≡ true
 unfolding read_hello
 hello_good bytes rest lane e =
     let b = bind_ok (read_outer_hello bytes) _ (lane, rest) e in
     let c = bind_ok (checked_cert (read_lane_cert b.0.0)) (λ (l : LaneCert). Ok (l, b.0.1)) (lane, rest) b.2 in
-    let same : c.0 ≡ lane = let whole : (c.0, b.0.1) ≡ (lane, rest) = ok_is {E = Stop} (c.0, b.0.1) (lane, rest) c.2 in ap (λ (x : LaneCert × List ℕ). x.0) whole in
+    let same : c.0 ≡ lane = let whole : (c.0, b.0.1) ≡ (lane, rest) = ok_is {E = ReadFault} (c.0, b.0.1) (lane, rest) c.2 in ap (λ (x : LaneCert × List ℕ). x.0) whole in
     subst (λ (l : LaneCert). is_good_lane_cert l ≡ true) same (cert_good (read_lane_cert b.0.0) c.0 c.1)
 
 -- ---- both

@@ -29,7 +29,7 @@ use Rattle.ds_msg.proofs.RecordLaws.{is_message}
 use Rattle.ds_frame.specs.declared.item.Frame.{Frame}
 use Rattle.ds_frame.specs.declared.item.Item.TheVariants as items
 use Rattle.ds_frame.specs.Checks.{read_frame, read_item}
-use Rattle.ds_frame.specs.Fields.{Stop, Open, Broken, number_from}
+use Rattle.ds_frame.specs.Fields.{ReadFault, Open, Broken, number_from}
 use Rattle.ds_frame.specs.Outer.{read_outer_frame}
 use Rattle.ds_frame.specs.Ranges.{BodiesRange, FrameSignatureFits}
 use Rattle.ds_frame.specs.Reader.{lane_after}
@@ -51,7 +51,7 @@ use Rattle.ds_scheme.proofs.Cuts.{ReadOrNot, WasRead, NotRead, hello_cut, IsWrit
 
 -- ---- messages
 
-abbrev all_read : List Message → Result (List Message) Stop
+abbrev all_read : List Message → Result (List Message) ReadFault
 all_read messages = Ok messages
 
 pub message_again : (m : Message) → MessageFits m → read_message (spelling_of_message m) ≡ Ok m
@@ -138,7 +138,7 @@ module _ (here : PubKey) (inlets : List InletName) where
   framed f = Framed f.number f.messages
 
   -- what a host sees where the first item was read, or nothing was
-  stopped : (lane : LaneCert) (most passed : ℕ) (bytes : List ℕ) (stop : Stop) → host_reading here inlets (Some lane) bytes ≡ Err stop → seen_on here inlets most (Some lane) passed bytes ≡ []
+  stopped : (lane : LaneCert) (most passed : ℕ) (bytes : List ℕ) (stop : ReadFault) → host_reading here inlets (Some lane) bytes ≡ Err stop → seen_on here inlets most (Some lane) passed bytes ≡ []
   unfolding read_on
   stopped lane zero passed bytes stop e = refl
   stopped lane (suc most) passed bytes Open e = ap (λ r. seen_of_items here inlets (joined passed (λ item rest. read_on (host_reading here inlets) most (lane_after item (Some lane)) (passed + (length bytes - length rest)) rest) r).items) e
@@ -149,7 +149,7 @@ module _ (here : PubKey) (inlets : List InletName) where
   unfolding read_on
   went_on lane most passed bytes frame seen rest e sees =
       ap (λ r. seen_of_items here inlets (joined passed (λ item rest. read_on (host_reading here inlets) most (lane_after item (Some lane)) (passed + (length bytes - length rest)) rest) r).items) e
-      ∙ ap (λ (r : Result Seen Stop). seen_or_none r ++ seen_on here inlets most (Some lane) (passed + (length bytes - length rest)) rest) sees
+      ∙ ap (λ (r : Result Seen ReadFault). seen_or_none r ++ seen_on here inlets most (Some lane) (passed + (length bytes - length rest)) rest) sees
 
   -- no item is among none
   none_there : (seen : List Seen) (j : ℕ) (item : Seen) → seen ≡ [] → slice_get seen j ≡ Some item → ⊥

@@ -9,7 +9,7 @@ use Rattle.ds_label.specs.declared.category.Category.{Category}
 use Rattle.ds_cert.specs.declared.delegation.Delegation.{Delegation}
 use Rattle.ds_msg.specs.declared.message.Message.{Message}
 use Rattle.ds_frame.specs.Spelling.{part_of_frame, spelling_of_frame}
-use Rattle.ds_chain.specs.declared.hop.Hop.{Hop}
+use Rattle.ds_chain.specs.declared.edge.Edge.{Edge}
 use Rattle.ds_chain.specs.Chain.{LeadsTo}
 use Rattle.ds_chain.specs.Delegated.{hop_of, hops_of_list, chain_to}
 use Rattle.ds_chain.specs.Keys.{same_key}
@@ -20,7 +20,7 @@ use Rattle.ds_cert.specs.Reading.{read_cert}
 use Rattle.ds_desk.specs.Signing.{signing_of, if_read}
 use Rattle.ds_desk.proofs.Grows.{key_again}
 use Rattle.ds_lane.specs.declared.batch.Waiting.{Waiting}
-use Rattle.ds_lane.specs.Ends.{spelled, bodies_of as hand_bodies, frame_of as hand_frame}
+use Rattle.ds_lane.specs.Workers.{spelled, bodies_of as hand_bodies, frame_of as hand_frame}
 use Rattle.ds_scheme.specs.StandingFrames.{bodies_of}
 use Rattle.ds_flow.specs.Chains.{delegations_at, flow_scheme, if_read as flow_read}
 use Rattle.ds_scheme.specs.TheScheme.{frame_of, scheme}
@@ -50,17 +50,17 @@ same_flow i = record scheme { read_cert = λ bytes. same_read (read_cert bytes) 
 
 -- ---- chains
 
-some_there : (certs : List Delegation) (moment : ℕ) (category : Category) (place : ℕ) (hop : Hop PubKey) → slice_get (hops_of_list moment category certs) place ≡ Some (Some hop) → (d : Delegation) × (slice_get certs place ≡ Some d)
-some_there certs moment category place hop e = go (slice_get certs place) refl (sym (slice_get-map (hop_of moment category) certs place) ∙ e)
+some_there : (certs : List Delegation) (moment : ℕ) (category : Category) (place : ℕ) (edge : Edge PubKey) → slice_get (hops_of_list moment category certs) place ≡ Some (Some edge) → (d : Delegation) × (slice_get certs place ≡ Some d)
+some_there certs moment category place edge e = go (slice_get certs place) refl (sym (slice_get-map (hop_of moment category) certs place) ∙ e)
   where
-    go : (o : Option Delegation) → slice_get certs place ≡ o → option_map (hop_of moment category) o ≡ Some (Some hop) → (d : Delegation) × (slice_get certs place ≡ Some d)
+    go : (o : Option Delegation) → slice_get certs place ≡ o → option_map (hop_of moment category) o ≡ Some (Some edge) → (d : Delegation) × (slice_get certs place ≡ Some d)
     go (Some d) f g = (d, f)
     go None f g = absurd cc
 
 at_places : (certs : List Delegation) (moment : ℕ) (category : Category) (from : PubKey) (places : List ℕ) (key : PubKey) → LeadsTo (hops_of_list moment category certs) from places key → map Some (filter_map (slice_get certs) places) ≡ map (slice_get certs) places
 at_places certs moment category from [] key leads = refl
-at_places certs moment category from (place ∷ places) key (next, hop, leads) =
-    let s = some_there certs moment category place (record { by = from; to = next }) hop in
+at_places certs moment category from (place ∷ places) key (next, edge, leads) =
+    let s = some_there certs moment category place (record { by = from; to = next }) edge in
     let later = at_places certs moment category next places key leads in
     rw s.1 (ap (λ (l : List (Option Delegation)). Some s.0 ∷ l) later)
 

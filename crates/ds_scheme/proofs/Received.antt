@@ -22,7 +22,7 @@ use Rattle.ds_cert.proofs.Steps.{bind_is}
 use Rattle.ds_frame.specs.declared.item.Item.{Item}
 use Rattle.ds_frame.specs.declared.item.Item.TheVariants as items
 use Rattle.ds_frame.specs.Checks.{read_item}
-use Rattle.ds_frame.specs.Fields.{Stop, Open}
+use Rattle.ds_frame.specs.Fields.{ReadFault, Open}
 use Rattle.ds_frame.specs.Laws.{IsHello, IsFrame}
 use Rattle.ds_frame.specs.Spelling.{spelling_of_hello, part_of_frame}
 use Rattle.ds_frame.specs.Streams.{Stream, with_item, read_on, stream_by}
@@ -43,7 +43,7 @@ use Rattle.ds_scheme.specs.StandingFrames.{bodies_of}
 use Rattle.ds_scheme.specs.TheScheme.{scheme}
 use Rattle.ds_scheme.proofs.Owns.{signature_on, frame_on, each_fits, sees_again, is_written, frames_text, framed, nothing_yet}
 
-abbrev item_ok : Item × List ℕ → Result (Item × List ℕ) Stop
+abbrev item_ok : Item × List ℕ → Result (Item × List ℕ) ReadFault
 item_ok x = Ok x
 
 -- a signature begins with its leaf
@@ -95,7 +95,7 @@ module _ (here : HostPlan) (lane : LanePlan) (is : IsReceiver here lane) where
       bind_is (read_item (Some lane.cert) (scheme.frame lane.signing f.number f.messages ++ rest)) (λ (x : Item × List ℕ). host_item here.key here.inlets x.0 >>= λ (seen : Seen). item_ok x) (items.Frame (frame_on f), rest) (Ok (items.Frame (frame_on f), rest)) (frame_item lane.cert (frame_on f) (signature_on lane f) rest (is_frame f can))
       (bind_is (host_item here.key here.inlets (items.Frame (frame_on f))) (λ (seen : Seen). item_ok (items.Frame (frame_on f), rest)) (framed here.key here.inlets f) (Ok (items.Frame (frame_on f), rest)) (frame_seen f can) refl)
 
-  abbrev reading : Option LaneCert → List ℕ → Result (Item × List ℕ) Stop
+  abbrev reading : Option LaneCert → List ℕ → Result (Item × List ℕ) ReadFault
   reading = host_reading here.key here.inlets
 
   abbrev text : List Written → List ℕ
@@ -115,7 +115,7 @@ module _ (here : HostPlan) (lane : LanePlan) (is : IsReceiver here lane) where
   frames_are_seen : (frames : List Written) → ((f : Written) → Contains frames f → CanBeWritten scheme has_spelling lane f) → seen_of_items here.key here.inlets (map (λ f. items.Frame (frame_on f)) frames) ≡ map (framed here.key here.inlets) frames
   frames_are_seen [] can = refl
   frames_are_seen (f ∷ frames) can =
-      ap (λ (r : Result Seen Stop). seen_or_none r ++ seen_of_items here.key here.inlets (map (λ g. items.Frame (frame_on g)) frames)) (frame_seen f (can f (in_head f frames)))
+      ap (λ (r : Result Seen ReadFault). seen_or_none r ++ seen_of_items here.key here.inlets (map (λ g. items.Frame (frame_on g)) frames)) (frame_seen f (can f (in_head f frames)))
       ∙ ap (λ (seen : List Seen). framed here.key here.inlets f ∷ seen) (frames_are_seen frames (λ g there. can g (in_tail f frames g there)))
 
   whole_stream : (frames : List Written) → ((f : Written) → Contains frames f → CanBeWritten scheme has_spelling lane f)
@@ -129,7 +129,7 @@ module _ (here : HostPlan) (lane : LanePlan) (is : IsReceiver here lane) where
   pub all_items : (frames : List Written) → ((f : Written) → Contains frames f → CanBeWritten scheme has_spelling lane f) → scheme.items here.key here.inlets (stream_with scheme lane frames) ≡ items_with lane frames
   all_items frames can =
       ap (λ (s : Stream). seen_of_items here.key here.inlets s.items) (whole_stream frames can)
-      ∙ ap (λ (r : Result Seen Stop). seen_or_none r ++ seen_of_items here.key here.inlets (map (λ g. items.Frame (frame_on g)) frames)) hello_seen
+      ∙ ap (λ (r : Result Seen ReadFault). seen_or_none r ++ seen_of_items here.key here.inlets (map (λ g. items.Frame (frame_on g)) frames)) hello_seen
       ∙ ap (λ (seen : List Seen). Hello lane.cert ∷ seen) (frames_are_seen frames can)
 
   pub no_ending : (frames : List Written) → ((f : Written) → Contains frames f → CanBeWritten scheme has_spelling lane f) → scheme.ending here.key here.inlets (stream_with scheme lane frames) ≡ None

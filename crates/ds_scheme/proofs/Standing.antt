@@ -10,7 +10,7 @@ use Rattle.ds_frame.specs.declared.item.Frame.{Frame}
 use Rattle.ds_frame.specs.declared.item.Item.{Item}
 use Rattle.ds_frame.specs.declared.item.Item.TheVariants as items
 use Rattle.ds_frame.specs.Checks.{read_frame}
-use Rattle.ds_frame.specs.Fields.{Stop, Open, Broken, number_from}
+use Rattle.ds_frame.specs.Fields.{ReadFault, Open, Broken, number_from}
 use Rattle.ds_frame.specs.Outer.{read_outer_frame}
 use Rattle.ds_frame.specs.Reader.{lane_after}
 use Rattle.ds_frame.specs.Streams.{read_on, joined}
@@ -20,7 +20,7 @@ use Rattle.ds_scheme.specs.StandingFrames.{bodies_of, same_bodies, are_spelled_a
 use Rattle.ds_scheme.proofs.Suffixes.{leaves_frame, leaves_hello}
 use Rattle.ds_scheme.proofs.Firsts.{frame_item, host_read, sees_frame, seen_on, first_lane, begins_with}
 
-abbrev all_read : List Message → Result (List Message) Stop
+abbrev all_read : List Message → Result (List Message) ReadFault
 all_read messages = Ok messages
 
 or_right : (a b : Bool) → b ≡ true → (a || b) ≡ true
@@ -77,7 +77,7 @@ module _ (here : PubKey) (inlets : List InletName) (lane : LaneCert) where
 
       signed_next : (most passed : ℕ) (bytes : List ℕ) (j number : ℕ) (messages : List Message)
           → ((next : ℕ) (rest : List ℕ) (i : ℕ) → slice_get (seen_on here inlets most (Some lane) next rest) i ≡ Some (Framed number messages) → frame_stands lane.key number messages rest ≡ true)
-          → (r : Result (Item × List ℕ) Stop) → host_reading here inlets (Some lane) bytes ≡ r
+          → (r : Result (Item × List ℕ) ReadFault) → host_reading here inlets (Some lane) bytes ≡ r
           → slice_get (seen_of_items here inlets (joined passed (λ item rest. read_on (host_reading here inlets) most (lane_after item (Some lane)) (passed + (length bytes - length rest)) rest) r).items) j ≡ Some (Framed number messages)
           → frame_stands lane.key number messages bytes ≡ true
       signed_next most passed bytes j number messages later (Err Open) told e = absurd cc

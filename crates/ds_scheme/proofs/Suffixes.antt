@@ -14,7 +14,7 @@ use Rattle.ds_frame.specs.declared.cause.Cause.TheVariants as causes
 use Rattle.ds_frame.specs.declared.item.Frame.{Frame}
 use Rattle.ds_frame.specs.Bodies.{split}
 use Rattle.ds_frame.specs.Checks.{checked_cert, checked_bodies, read_hello, read_frame}
-use Rattle.ds_frame.specs.Fields.{Stop, Broken, field, number_from}
+use Rattle.ds_frame.specs.Fields.{ReadFault, Broken, field, number_from}
 use Rattle.ds_frame.specs.Outer.{read_outer_hello, read_outer_frame}
 
 -- a part of the bytes stands in front of what follows
@@ -22,10 +22,10 @@ pub record IsEnd (bytes rest : List ℕ) : Type 0 where
   pub front : List ℕ
   pub parts : bytes ≡ front ++ rest
 
-abbrev pub LeavesEnd : {A : Type 0} → (List ℕ → Result (A × List ℕ) Stop) → Type 0
+abbrev pub LeavesEnd : {A : Type 0} → (List ℕ → Result (A × List ℕ) ReadFault) → Type 0
 LeavesEnd {A} reading = (bytes : List ℕ) (x : A × List ℕ) → reading bytes ≡ Ok x → IsEnd bytes x.1
 
-pub leaves_then : {A B : Type 0} (r : List ℕ → Result (A × List ℕ) Stop) (f : A → List ℕ → Result (B × List ℕ) Stop) → LeavesEnd r → ((a : A) → LeavesEnd (f a)) → LeavesEnd (λ (bytes : List ℕ). r bytes >>= λ (x : A × List ℕ). f x.0 x.1)
+pub leaves_then : {A B : Type 0} (r : List ℕ → Result (A × List ℕ) ReadFault) (f : A → List ℕ → Result (B × List ℕ) ReadFault) → LeavesEnd r → ((a : A) → LeavesEnd (f a)) → LeavesEnd (λ (bytes : List ℕ). r bytes >>= λ (x : A × List ℕ). f x.0 x.1)
 leaves_then {A} {B} r f first second bytes y e =
     let b = bind_ok (r bytes) (λ (x : A × List ℕ). f x.0 x.1) y e in
     let one = first bytes b.0 b.1 in
@@ -34,9 +34,9 @@ leaves_then {A} {B} r f first second bytes y e =
 
 -- what takes no bytes
 leaves_done : {A : Type 0} (a : A) → LeavesEnd (λ (bytes : List ℕ). Ok (a, bytes))
-leaves_done {A} a bytes x e = subst (λ (y : A × List ℕ). IsEnd bytes y.1) (ok_is {E = Stop} (a, bytes) x e) (record { front = []; parts = refl })
+leaves_done {A} a bytes x e = subst (λ (y : A × List ℕ). IsEnd bytes y.1) (ok_is {E = ReadFault} (a, bytes) x e) (record { front = []; parts = refl })
 
-leaves_checked : {A B : Type 0} (r : Result A Stop) (g : A → B) → LeavesEnd (λ (bytes : List ℕ). r >>= λ (a : A). Ok (g a, bytes))
+leaves_checked : {A B : Type 0} (r : Result A ReadFault) (g : A → B) → LeavesEnd (λ (bytes : List ℕ). r >>= λ (a : A). Ok (g a, bytes))
 leaves_checked (Ok a) g = leaves_done (g a)
 leaves_checked (Err stop) g = λ bytes x e. absurd cc
 
@@ -46,7 +46,7 @@ leaves_front {A} n view bytes x e = cases (ltb (length bytes) n) e
   where
     cases : (b : Bool) → field (cond b None (Some (view (take n bytes), drop n bytes))) ≡ Ok x → IsEnd bytes x.1
     cases true g = absurd cc
-    cases false g = subst (λ (y : A × List ℕ). IsEnd bytes y.1) (ok_is {E = Stop} (view (take n bytes), drop n bytes) x g) (record { front = take n bytes; parts = sym (take-append-drop n bytes) })
+    cases false g = subst (λ (y : A × List ℕ). IsEnd bytes y.1) (ok_is {E = ReadFault} (view (take n bytes), drop n bytes) x g) (record { front = take n bytes; parts = sym (take-append-drop n bytes) })
 
 leaves_number : (w : Width) → LeavesEnd (λ (bytes : List ℕ). field (number_at w bytes))
 leaves_number w = leaves_front (byte_len w) (from_be_bytes w)
@@ -54,7 +54,7 @@ leaves_number w = leaves_front (byte_len w) (from_be_bytes w)
 leaves_run : (n : ℕ) → LeavesEnd (λ (bytes : List ℕ). field (bytes_at n bytes))
 leaves_run n = leaves_front n (λ (run : List ℕ). run)
 
-leaves_test : (b c : Bool) (stop : Stop) (n : ℕ) → LeavesEnd (λ (bytes : List ℕ). cond b (Err stop) (cond c (Err stop) (Ok (n, bytes))))
+leaves_test : (b c : Bool) (stop : ReadFault) (n : ℕ) → LeavesEnd (λ (bytes : List ℕ). cond b (Err stop) (cond c (Err stop) (Ok (n, bytes))))
 leaves_test true c stop n = λ bytes x e. absurd cc
 leaves_test false true stop n = λ bytes x e. absurd cc
 leaves_test false false stop n = leaves_done n

@@ -42,7 +42,7 @@ abbrev pub the_receiver : HostPlan
 the_receiver = record no_host { key = public_of (key_named 2); inlets = record { exporter = public_of (key_named 1); lane = 1 } ∷ [] }
 
 abbrev pub the_plan : Plan
-the_plan = record { hosts = the_sender ∷ the_receiver ∷ []; wires = [] }
+the_plan = record { hosts = the_sender ∷ the_receiver ∷ []; conn_plans = [] }
 
 -- a frame with one message of one byte
 abbrev pub the_message : Message
@@ -52,8 +52,8 @@ abbrev pub the_frame : Written
 the_frame = record { number = 0; messages = the_message ∷ [] }
 
 -- the plan's lanes have spellings, and the host is the lane's receiver
-abbrev pub IsMet : Type 0
-IsMet = HasSpelledLanes the_plan × IsReceiver the_receiver the_lane
+abbrev pub PremisesHold : Type 0
+PremisesHold = HasSpelledLanes the_plan × IsReceiver the_receiver the_lane
 
 -- it reads the lane's hello, and the frame
 abbrev pub IsRead : Type 0

@@ -3,7 +3,7 @@ use Rattle.std.specs.Prelude.{◌≡◌, ℕ, true, Some, length}
 use Rattle.lms_sig.specs.Merkle.{public_key}
 use Rattle.ds_cert.specs.Ranges.{LaneCertFits}
 use Rattle.ds_model.specs.Plan.{HostPlan, LanePlan}
-use Rattle.ds_model.specs.Connecting.{inlet_of}
+use Rattle.ds_model.specs.ConnectionStep.{inlet_of}
 use Rattle.ds_desk.specs.Signing.{key_of}
 use Rattle.ds_scheme.specs.TheScheme.{scheme}
 

@@ -5,7 +5,7 @@ use Rattle.ds_msg.specs.declared.message.Message.{Message}
 use Rattle.ds_msg.specs.Spelling.{spelling_of_message}
 use Rattle.ds_frame.specs.declared.item.Frame.{Frame}
 use Rattle.ds_frame.specs.Checks.{read_frame}
-use Rattle.ds_frame.specs.Fields.{Stop}
+use Rattle.ds_frame.specs.Fields.{ReadFault}
 use Rattle.ds_frame.specs.Laws.{IsFrame}
 use Rattle.ds_frame.specs.Spelling.{spelling_of_frame}
 use Rattle.ds_inlet.specs.Hosts.{messages_from}
@@ -22,12 +22,12 @@ same_bodies (body ∷ bodies) [] = false
 same_bodies (body ∷ bodies) (other ∷ others) = bytes_eq body other && same_bodies bodies others
 
 -- the messages that were read are spelled as these
-abbrev pub are_spelled_as : List Message → Result (List Message) Stop → Bool
+abbrev pub are_spelled_as : List Message → Result (List Message) ReadFault → Bool
 are_spelled_as messages (Ok found) = same_bodies (bodies_of found) (bodies_of messages)
 are_spelled_as messages (Err stop) = false
 
 -- a frame was read, with this number and messages that are spelled as these
-abbrev pub is_frame_of : (number : ℕ) → List Message → Result (Frame × List ℕ) Stop → Bool
+abbrev pub is_frame_of : (number : ℕ) → List Message → Result (Frame × List ℕ) ReadFault → Bool
 is_frame_of number messages (Ok x) = (x.0.number == number) && are_spelled_as messages (messages_from 11 x.0.bodies)
 is_frame_of number messages (Err stop) = false
 

@@ -25,13 +25,13 @@ ghost use Rattle.ds_model.specs.Plan.{HostPlan, LanePlan, Plan};
 ghost use Rattle.ds_flow.specs.Chains.{flow_scheme};
 ghost use Rattle.ds_desk.specs.Signing.{desk_scheme, signing_of};
 ghost use Rattle.ds_lane.specs.declared.batch.Waiting.{Waiting};
-ghost use Rattle.ds_lane.specs.Ends.{fresh_worker, frame_of};
+ghost use Rattle.ds_lane.specs.Workers.{fresh_worker, frame_of};
 ghost use Rattle.ds_inlet.specs.Hosts.{host_reading, seen_failure, seen_of_items};
 ghost use Rattle.ds_noninterference.specs.Alike.{AlikeWorlds};
 ghost use Rattle.ds_noninterference.specs.Law.{SameArrivals, SameDesks, SameHosts, SameProcesses, SameSections};
 ghost use Rattle.ds_noninterference.specs.Premises.{IsScheme};
 ghost use Rattle.ds_delivery.specs.Premises.{CanBeWritten, IsReadable, Written, items_with, stream_with};
-ghost use Rattle.ds_scheme.specs.Example.{IsMet, IsRead};
+ghost use Rattle.ds_scheme.specs.Example.{PremisesHold, IsRead};
 ghost use Rattle.ds_scheme.specs.Premises.{AfterBoth, IsDeliveredLawfully};
 ghost use Rattle.ds_scheme.specs.Receivers.{IsReceiver};
 ghost use Rattle.ds_scheme.specs.Spelled.{HasSpelledLanes, has_spelling};
@@ -137,6 +137,6 @@ pub fn signed_frames_stand()
 /// A lane of a plan, with a frame of one message, and its receiver: the premises are met, and the receiver reads the hello and
 /// the frame. The keys and the signatures are of LMS.
 pub fn an_example()
-    ensures met { IsMet }
+    ensures met { PremisesHold }
     ensures read { IsRead }
 {}

@@ -3,4 +3,4 @@ pub mod Inner
 pub mod Fits
 pub mod Names
 pub mod Process
-pub mod Sound
+pub mod Inside

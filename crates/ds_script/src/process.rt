@@ -40,7 +40,7 @@ impl Model for Proc {
 
     ghost Value = { ProcView };
 
-    ghost use Rattle.ds_script.specs.Sound.{view_of, IsSound};
+    ghost use Rattle.ds_script.specs.Inside.{view_of, IsSound};
 
     ghost view = { view_of };
 

@@ -16,10 +16,10 @@ use Rattle.dstar.specs.declared.call.Call.{Call}
 use Rattle.dstar.specs.declared.call.Call.TheVariants.{Sim, Small}
 use Rattle.dstar.specs.Outside.{input_limit}
 use Rattle.dstar.specs.Runs.{TextOf, IsNoDocument}
-use Rattle.dstar.specs.Causes.{Meeting, ReadWhole, Caused, Answers, Answered, Gives, IsDecided, name_of, status_of, text_in}
+use Rattle.dstar.specs.Causes.{Observed, ReadWhole, Caused, Answers, Answered, Gives, IsDecided, name_of, status_of, text_in}
 
 -- the bytes that were read to the end are the ones that the input told
-whole_is : (m : Meeting) (bytes read : List ℕ) → m.told ≡ Some bytes → ReadWhole m read → read ≡ bytes
+whole_is : (m : Observed) (bytes read : List ℕ) → m.told ≡ Some bytes → ReadWhole m read → read ≡ bytes
 whole_is m bytes read e w = told_all bytes read m.left (subst (λ (o : Option (List ℕ)). Told o read m.left) e w.taken) w.none_left
 
 -- bytes that were taken are no more than the input told
@@ -64,7 +64,7 @@ no_memory : (call : Call) (now : ℕ) (told : Option (List ℕ → ℕ)) (bytes 
 no_memory call now told bytes = record { too_long = λ h. inr refl; answered = λ h d mark m reply g. inr refl }
 
 -- an answer was given
-given : (call : Call) (now : ℕ) (m : Meeting) (bytes read : List ℕ) (reply : Reply) → m.told ≡ Some bytes → ReadWhole m read → Answered call now read m.marks m.marks_after reply
+given : (call : Call) (now : ℕ) (m : Observed) (bytes read : List ℕ) (reply : Reply) → m.told ≡ Some bytes → ReadWhole m read → Answered call now read m.marks m.marks_after reply
     → Answers call now m.marks bytes (status_of reply)
 given call now m bytes read reply e whole a =
     let same : read ≡ bytes = whole_is m bytes read e whole in
@@ -81,7 +81,7 @@ overran call now told bytes long = record {
   answered = λ h d mark m reply g. absurd (omega arith);
 }
 
-pub answers : (call : Call) (now : ℕ) (m : Meeting) (bytes : List ℕ) (status : Status) → Caused call now m status → m.told ≡ Some bytes → (Rose m.read_faults m.read_faults_after → ⊥)
+pub answers : (call : Call) (now : ℕ) (m : Observed) (bytes : List ℕ) (status : Status) → Caused call now m status → m.told ≡ Some bytes → (Rose m.read_faults m.read_faults_after → ⊥)
     → (Rose m.write_faults m.write_faults_after → ⊥) → (Rose m.keeper_faults m.keeper_faults_after → ⊥) → Answers call now m.marks bytes status
 answers call now m bytes ends.Ok c e r w k = given call now m bytes c.bytes (Prints c.text) e c.whole c.answered
 answers call now m bytes ends.Usage c e r w k = absurd c
@@ -100,7 +100,7 @@ answers call now m bytes ends.WireFault c e r w k = absurd c
 answers call now m bytes ends.No c e r w k = given call now m bytes c.bytes (Denies c.text) e c.whole c.answered
 
 -- a call never ends as Usage
-pub never_usage : (call : Call) (now : ℕ) (m : Meeting) (status : Status) → Caused call now m status → status ≡ ends.Usage → ⊥
+pub never_usage : (call : Call) (now : ℕ) (m : Observed) (status : Status) → Caused call now m status → status ≡ ends.Usage → ⊥
 never_usage call now m status c e = subst (Caused call now m) e c
 
 abbrev or_else : Option Call → Call → Call

@@ -18,7 +18,7 @@ use Rattle.dstar.specs.Runs.{TextOf, IsNoDocument}
 
 -- What a call saw and did outside: the bytes that the input told and the bytes that the output told, the marks that the keeper
 -- told, and the counts of the input's faults and ends, of the output's faults and of the keeper's, before and after.
-pub record Meeting : Type 0 where
+pub record Observed : Type 0 where
   pub told : Option (List ℕ)
   pub left : Option (List ℕ)
   pub read_faults : ℕ
@@ -79,22 +79,22 @@ Unanswered command_faults.NoMemory call bytes faults faults' marks after = after
 -- HOW A CALL ENDS
 
 -- nothing was written
-abbrev pub WroteNothing : Meeting → Type 0
+abbrev pub WroteNothing : Observed → Type 0
 WroteNothing m = m.written_after ≡ m.written
 
 -- no mark was raised
-abbrev pub KeptMarks : Meeting → Type 0
+abbrev pub KeptMarks : Observed → Type 0
 KeptMarks m = m.marks_after ≡ m.marks
 
 -- these bytes are the input, read to its end
-pub record ReadWhole (m : Meeting) (bytes : List ℕ) : Type 0 where
+pub record ReadWhole (m : Observed) (bytes : List ℕ) : Type 0 where
   pub taken : Told m.told bytes m.left
   pub ended : Rose m.ends m.ends_after
   pub none_left : NoneLeft m.left
   pub short : length bytes ≤ input_limit
 
 -- the answer's text was written
-pub record Wrote (call : Call) (now : ℕ) (m : Meeting) (says : List ℕ → Reply) : Type 0 where
+pub record Wrote (call : Call) (now : ℕ) (m : Observed) (says : List ℕ → Reply) : Type 0 where
   pub bytes : List ℕ
   pub whole : ReadWhole m bytes
   pub text : List ℕ
@@ -109,7 +109,7 @@ text_in (Breaks code place) = None
 text_in Spends = None
 
 -- the output failed, and some front of the answer's text was written
-pub record Stopped (call : Call) (now : ℕ) (m : Meeting) : Type 0 where
+pub record Stopped (call : Call) (now : ℕ) (m : Observed) : Type 0 where
   pub bytes : List ℕ
   pub whole : ReadWhole m bytes
   pub reply : Reply
@@ -120,7 +120,7 @@ pub record Stopped (call : Call) (now : ℕ) (m : Meeting) : Type 0 where
   pub wrote : WroteFront m.written text m.written_after
 
 -- more bytes were read than an input may have
-pub record Overran (m : Meeting) : Type 0 where
+pub record Overran (m : Observed) : Type 0 where
   pub bytes : List ℕ
   pub taken : Told m.told bytes m.left
   pub long : input_limit < length bytes
@@ -128,21 +128,21 @@ pub record Overran (m : Meeting) : Type 0 where
   pub kept : KeptMarks m
 
 -- the answer has no text: what is wrong with the input, or that the key has no leaf left
-pub record Silent (call : Call) (now : ℕ) (m : Meeting) (reply : Reply) : Type 0 where
+pub record Silent (call : Call) (now : ℕ) (m : Observed) (reply : Reply) : Type 0 where
   pub bytes : List ℕ
   pub whole : ReadWhole m bytes
   pub answered : Answered call now bytes m.marks m.marks_after reply
   pub silent : WroteNothing m
 
 -- the keeper failed
-pub record LostKeeper (call : Call) (m : Meeting) : Type 0 where
+pub record LostKeeper (call : Call) (m : Observed) : Type 0 where
   pub bytes : List ℕ
   pub whole : ReadWhole m bytes
   pub failed : KeeperFailed call bytes m.keeper_faults m.keeper_faults_after m.marks m.marks_after
   pub silent : WroteNothing m
 
 -- the causes of a call at a moment
-abbrev pub Caused : Call → (now : ℕ) → Meeting → Status → Type 0
+abbrev pub Caused : Call → (now : ℕ) → Observed → Status → Type 0
 Caused call now m ends.Ok = Wrote call now m Prints
 Caused call now m ends.Usage = ⊥
 Caused call now m ends.ReadFault = Rose m.read_faults m.read_faults_after × WroteNothing m × KeptMarks m

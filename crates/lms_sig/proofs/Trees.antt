@@ -2,7 +2,7 @@
 use Rattle.std.proofs.Common.{◌≡◌, ◌≢◌, ℕ, zero, suc, ◌+◌, ◌-◌, ◌*◌, ◌/◌, ◌%◌, ◌^◌, ◌<◌, ◌≤◌, ◌⊎◌, inl, inr, List, [], length, get_or, set, refl, arith, get_or-set_other, get_or-set_same}
 use Rattle.std.proofs.Math.Nat.{pow-succ'}
 use Rattle.std.proofs.lemmas.Bool.{cases_eq}
-use Rattle.lms_sig.specs.Kept.{HoldsFrom, IsNode}
+use Rattle.lms_sig.specs.TreeNodes.{HoldsFrom, IsNode}
 use Rattle.lms_sig.specs.Merkle.{T, inner, leaf, sibling}
 use Rattle.lms_sig.specs.OneTime.{K}
 use Rattle.lms_sig.specs.Parameters.{height, leaf_count}

@@ -5,4 +5,4 @@ pub mod OneTime
 pub mod Merkle
 pub mod Good
 pub mod Keys
-pub mod Kept
+pub mod TreeNodes

@@ -4,7 +4,7 @@ ghost use Rattle.std.specs.Prelude.{◌≡◌, ◌+◌, ◌*◌, ◌<◌, ◌++�
 ghost use Rattle.lms_sig.specs.Keys.{Key};
 ghost use Rattle.lms_sig.specs.Merkle.{path, public_key, signature};
 ghost use Rattle.lms_sig.specs.Parameters.{height, leaf_count};
-ghost use Rattle.lms_sig.specs.Kept.{HoldsFrom, IsTree};
+ghost use Rattle.lms_sig.specs.TreeNodes.{HoldsFrom, IsTree};
 ghost use Rattle.lms_sig.specs.declared.params.Params.{Params};
 
 use crate::hash::{inner_hash, leaf_hash, put, u32_bytes};

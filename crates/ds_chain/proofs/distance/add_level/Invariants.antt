@@ -5,4 +5,4 @@ use Rattle.ds_chain.proofs.Levels.{ArePartly}
 use Rattle.ds_chain.proofs.distance.add_level.Given as goal
 
 abbrev pub invariant-loop-entry : goal.invariant-loop-entry
-invariant-loop-entry l = record { partly : (key : ℕ) → AreKnown l.hops key l.level l.initial.steps → ArePartly l.hops key l.level l.entry-index l.steps; unchanged : l.found ≡ false → l.steps ≡ l.initial.steps }
+invariant-loop-entry l = record { partly : (key : ℕ) → AreKnown l.edges key l.level l.initial.distances → ArePartly l.edges key l.level l.entry-index l.distances; unchanged : l.found ≡ false → l.distances ≡ l.initial.distances }

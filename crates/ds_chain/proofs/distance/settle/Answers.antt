@@ -7,11 +7,11 @@ use Rattle.ds_chain.proofs.distance.settle.Goals as goal
 
 pub returns-then-not-add_level : goal.returns-then-not-add_level
 returns-then-not-add_level c =
-    let e : c.add_level.new.steps ≡ c.loop-level.steps = OnFalse_at c.if-not-add_level.true c.add_level.ensures.none in
+    let e : c.add_level.new.distances ≡ c.loop-level.distances = OnFalse_at c.if-not-add_level.true c.add_level.ensures.none in
     record {
       settled = λ key start.
-          settled_still c.args.hops.now key c.loop-level.level c.add_level.new.steps
-          (subst (λ (steps : List (Option ℕ)). AreKnown c.args.hops.now key c.loop-level.level steps) (sym e) (c.loop-level.invariant key start))
+          settled_still c.args.edges.now key c.loop-level.level c.add_level.new.distances
+          (subst (λ (distances : List (Option ℕ)). AreKnown c.args.edges.now key c.loop-level.level distances) (sym e) (c.loop-level.invariant key start))
           (c.add_level.ensures.known key (c.loop-level.invariant key start));
     }
 
@@ -19,4 +19,4 @@ pub loop-level-preserved : goal.loop-level-preserved
 loop-level-preserved c = λ key start. c.add_level.ensures.known key (c.loop-level.invariant key start)
 
 pub returns : goal.returns
-returns c = record { settled = λ key start. settled_all c.args.hops.now key c.loop-level.level c.loop-level.steps (omega arith) (c.loop-level.invariant key start) }
+returns c = record { settled = λ key start. settled_all c.args.edges.now key c.loop-level.level c.loop-level.distances (omega arith) (c.loop-level.invariant key start) }

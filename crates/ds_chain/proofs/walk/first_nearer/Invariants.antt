@@ -1,6 +1,6 @@
 use Rattle.std.proofs.Common.{◌≡◌, ℕ, ◌<◌, Some, None, slice_index_or}
-use Rattle.ds_chain.specs.Chain.{IsHop}
+use Rattle.ds_chain.specs.Chain.{IsEdge}
 use Rattle.ds_chain.proofs.walk.first_nearer.Given as goal
 
 abbrev pub invariant-loop-place : goal.invariant-loop-place
-invariant-loop-place l = (sooner other : ℕ) → sooner < l.place → IsHop l.hops sooner l.by other → slice_index_or l.steps other None ≡ Some l.left → ⊥
+invariant-loop-place l = (sooner other : ℕ) → sooner < l.place → IsEdge l.edges sooner l.by other → slice_index_or l.distances other None ≡ Some l.left → ⊥

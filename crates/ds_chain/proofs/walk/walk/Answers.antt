@@ -10,21 +10,21 @@ pub unwrap-step-requires : goal.unwrap-step-requires
 unwrap-step-requires c =
     let one : c.args.count - c.loop-walked.walked ≡ suc (c.args.count - 1 - c.loop-walked.walked) = omega arith in
     some_since c.first_nearer.result _ _ c.first_nearer.ensures.none
-    (some_nearer c.args.hops.now c.args.key c.args.steps.now c.loop-walked.invariant.settled c.loop-walked.by (c.args.count - 1 - c.loop-walked.walked) (c.loop-walked.invariant.at ∙ ap (λ (n : ℕ). Some n) one))
+    (some_nearer c.args.edges.now c.args.key c.args.distances.now c.loop-walked.invariant.settled c.loop-walked.by (c.args.count - 1 - c.loop-walked.walked) (c.loop-walked.invariant.at ∙ ap (λ (n : ℕ). Some n) one))
 
 pub loop-walked-preserved : goal.loop-walked-preserved
 loop-walked-preserved c =
     let one : c.args.count - c.loop-walked.walked ≡ suc (c.args.count - 1 - c.loop-walked.walked) = omega arith in
     let less : c.args.count - 1 - c.loop-walked.walked ≡ c.args.count - (c.loop-walked.walked + 1) = omega arith in
-    let first : IsFirstNearer c.args.hops.now c.args.steps.now c.loop-walked.by (c.args.count - 1 - c.loop-walked.walked) c.unwrap-step.result.place c.unwrap-step.result.to =
+    let first : IsFirstNearer c.args.edges.now c.args.distances.now c.loop-walked.by (c.args.count - 1 - c.loop-walked.walked) c.unwrap-step.result.place c.unwrap-step.result.to =
     rw c.unwrap-step.ensures at c.first_nearer.ensures.found in
     record {
       settled = c.loop-walked.invariant.settled;
       at = first.left_over ∙ ap (λ (n : ℕ). Some n) less;
       rest = λ tail least.
-          let all : IsShortestChain c.args.hops.now c.args.creator (c.loop-walked.chain.items ++ c.unwrap-step.result.place ∷ tail) c.args.key =
+          let all : IsShortestChain c.args.edges.now c.args.creator (c.loop-walked.chain.items ++ c.unwrap-step.result.place ∷ tail) c.args.key =
           c.loop-walked.invariant.rest (c.unwrap-step.result.place ∷ tail)
-          (nearer_shortest c.args.hops.now c.args.key c.args.steps.now c.loop-walked.invariant.settled c.loop-walked.by (c.args.count - 1 - c.loop-walked.walked) c.unwrap-step.result.place c.unwrap-step.result.to
+          (nearer_shortest c.args.edges.now c.args.key c.args.distances.now c.loop-walked.invariant.settled c.loop-walked.by (c.args.count - 1 - c.loop-walked.walked) c.unwrap-step.result.place c.unwrap-step.result.to
           (c.loop-walked.invariant.at ∙ ap (λ (n : ℕ). Some n) one) first tail least) in
           rw (c.in_ok-push.ensures.items, append_assoc) all;
     }
@@ -32,6 +32,6 @@ loop-walked-preserved c =
 pub returns : goal.returns
 returns c =
     let none : c.args.count - c.loop-walked.walked ≡ 0 = omega arith in
-    let all : IsShortestChain c.args.hops.now c.args.creator (c.loop-walked.chain.items ++ []) c.args.key =
-    c.loop-walked.invariant.rest [] (end_shortest c.args.hops.now c.args.key c.args.steps.now c.loop-walked.invariant.settled c.loop-walked.by (c.loop-walked.invariant.at ∙ ap (λ (n : ℕ). Some n) none)) in
-    subst (λ (places : List ℕ). IsShortestChain c.args.hops.now c.args.creator places c.args.key) (append-nil c.loop-walked.chain.items) all
+    let all : IsShortestChain c.args.edges.now c.args.creator (c.loop-walked.chain.items ++ []) c.args.key =
+    c.loop-walked.invariant.rest [] (end_shortest c.args.edges.now c.args.key c.args.distances.now c.loop-walked.invariant.settled c.loop-walked.by (c.loop-walked.invariant.at ∙ ap (λ (n : ℕ). Some n) none)) in
+    subst (λ (places : List ℕ). IsShortestChain c.args.edges.now c.args.creator places c.args.key) (append-nil c.loop-walked.chain.items) all

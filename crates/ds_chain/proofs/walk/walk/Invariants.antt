@@ -6,7 +6,7 @@ use Rattle.ds_chain.proofs.walk.walk.Given as goal
 abbrev pub invariant-loop-walked : goal.invariant-loop-walked
 invariant-loop-walked l =
     record {
-      settled : AreSettled l.hops l.key l.steps;
-      at : slice_index_or l.steps l.by None ≡ Some (l.count - l.walked);
-      rest : (tail : List ℕ) → IsShortestChain l.hops l.by tail l.key → IsShortestChain l.hops l.creator (l.chain.items ++ tail) l.key;
+      settled : AreSettled l.edges l.key l.distances;
+      at : slice_index_or l.distances l.by None ≡ Some (l.count - l.walked);
+      rest : (tail : List ℕ) → IsShortestChain l.edges l.by tail l.key → IsShortestChain l.edges l.creator (l.chain.items ++ tail) l.key;
     }

@@ -1,5 +1,5 @@
 use Rattle.std.proofs.Common.{drop}
-use Rattle.ds_inlet.specs.Seen.{seen_of}
+use Rattle.ds_inlet.specs.ItemInside.{seen_of}
 use Rattle.ds_inlet.proofs.ForHost.{for_host}
 use Rattle.ds_inlet.proofs.hosts.seen_reading.Goals as goal
 

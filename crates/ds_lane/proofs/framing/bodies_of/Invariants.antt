@@ -1,5 +1,5 @@
 use Rattle.std.proofs.Common.{◌≡◌, length, All, map, take}
-use Rattle.ds_lane.specs.Ends.{spelled}
+use Rattle.ds_lane.specs.Workers.{spelled}
 use Rattle.ds_lane.proofs.Sizes.{IsSmall}
 use Rattle.ds_lane.proofs.framing.bodies_of.Given as goal
 

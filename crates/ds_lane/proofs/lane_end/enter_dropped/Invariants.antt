@@ -1,5 +1,5 @@
 use Rattle.std.proofs.Common.{◌≡◌, ◌≤◌, ◌+◌, ◌-◌, ◌++◌, length, map, take, vec_len, vec_capacity}
-use Rattle.ds_lane.specs.Ends.{dropped_entry}
+use Rattle.ds_lane.specs.Workers.{dropped_entry}
 use Rattle.ds_lane.proofs.lane_end.enter_dropped.Given as goal
 
 abbrev pub invariant-loop-waiting : goal.invariant-loop-waiting

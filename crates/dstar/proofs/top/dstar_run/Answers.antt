@@ -1,13 +1,13 @@
 use Rattle.std.proofs.Common.{◌≡◌, ◌∙◌, sym, ap, subst, refl, Some, None, ℕ}
 use Rattle.dstar.specs.Words.{texts, call_in}
-use Rattle.dstar.specs.Causes.{Meeting, Caused, Answers, asks_keeper}
+use Rattle.dstar.specs.Causes.{Observed, Caused, Answers, asks_keeper}
 use Rattle.dstar.specs.declared.call.Call.{Call}
 use Rattle.dstar.proofs.Answering.{answers, never_usage, same_call, no_call}
 use Rattle.dstar.proofs.top.dstar_run.Goals as goal
 
 pub returns-in-Some-clause-usage : goal.returns-in-Some-clause-usage
 returns-in-Some-clause-usage g c =
-    let m : Meeting = record {
+    let m : Observed = record {
       told = g.R.Source.tells c.args.input.now;
       left = g.R.Source.tells c.respond.new.input;
       read_faults = g.R.Source.faults c.args.input.now;
@@ -28,7 +28,7 @@ returns-in-Some-clause-usage g c =
 
 pub returns-in-Some-clause-unused : goal.returns-in-Some-clause-unused
 returns-in-Some-clause-unused g c =
-    let m : Meeting = record {
+    let m : Observed = record {
       told = g.R.Source.tells c.args.input.now;
       left = g.R.Source.tells c.respond.new.input;
       read_faults = g.R.Source.faults c.args.input.now;
@@ -53,7 +53,7 @@ returns-in-Some-clause-kept g c = λ call is' asks.
 
 pub returns-in-Some-clause-caused : goal.returns-in-Some-clause-caused
 returns-in-Some-clause-caused g c = λ call is'.
-    let m : Meeting = record {
+    let m : Observed = record {
       told = g.R.Source.tells c.args.input.now;
       left = g.R.Source.tells c.respond.new.input;
       read_faults = g.R.Source.faults c.args.input.now;
@@ -74,7 +74,7 @@ returns-in-Some-clause-caused g c = λ call is'.
 
 pub returns-in-Some-clause-answers : goal.returns-in-Some-clause-answers
 returns-in-Some-clause-answers g c = λ call is' bytes told r w k.
-    let m : Meeting = record {
+    let m : Observed = record {
       told = g.R.Source.tells c.args.input.now;
       left = g.R.Source.tells c.respond.new.input;
       read_faults = g.R.Source.faults c.args.input.now;

@@ -1,5 +1,5 @@
 use Rattle.std.proofs.Common.{◌≡◌, ℕ, List, ◌≤◌}
-use Rattle.lms_sig.specs.Kept.{HoldsFrom}
+use Rattle.lms_sig.specs.TreeNodes.{HoldsFrom}
 use Rattle.lms_sig.specs.Parameters.{leaf_count}
 use Rattle.lms_sig.specs.declared.params.Params.{Params}
 use Rattle.lms_sig.proofs.tree.fill_inner.Given as goal

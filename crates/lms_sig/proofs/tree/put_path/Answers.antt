@@ -1,5 +1,5 @@
 use Rattle.std.proofs.Common.{◌≡◌, ◌-◌, ◌+◌, [], suc, append_assoc, append-nil, arith, get_or}
-use Rattle.lms_sig.specs.Kept.{IsNode}
+use Rattle.lms_sig.specs.TreeNodes.{IsNode}
 use Rattle.lms_sig.specs.Merkle.{T, sibling}
 use Rattle.lms_sig.specs.Parameters.{height}
 use Rattle.lms_sig.proofs.Climbs.{path-none, path-step}

@@ -1,5 +1,5 @@
 use Rattle.std.proofs.Common.{◌≡◌, ℕ, List, ◌+◌, ◌-◌, ◌++◌}
-use Rattle.lms_sig.specs.Kept.{HoldsFrom, IsNode}
+use Rattle.lms_sig.specs.TreeNodes.{HoldsFrom, IsNode}
 use Rattle.lms_sig.specs.Merkle.{path}
 use Rattle.lms_sig.specs.Parameters.{height, leaf_count}
 use Rattle.lms_sig.proofs.tree.put_path.Given as goal

@@ -1,7 +1,7 @@
 use Rattle.std.proofs.Common.{length, sym, ◌∙◌, subst}
 use Rattle.ds_model.specs.Mailbox.{PutIn, FoundFull}
 use Rattle.ds_box.specs.Boxes.{IsShortMail}
-use Rattle.ds_box.specs.Sound.{mailbox_of}
+use Rattle.ds_box.specs.Inside.{mailbox_of}
 use Rattle.ds_box.proofs.Grows.{grown, grown_last, full_may, free_may}
 use Rattle.ds_box.proofs.state.BoxState.put.Goals as goal
 

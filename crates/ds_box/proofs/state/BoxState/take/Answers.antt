@@ -1,5 +1,5 @@
 use Rattle.ds_model.specs.Mailbox.{TookOut}
-use Rattle.ds_box.specs.Sound.{mailbox_of}
+use Rattle.ds_box.specs.Inside.{mailbox_of}
 use Rattle.ds_box.proofs.Grows.{grown, grown_last, one_may, one_less}
 use Rattle.ds_box.proofs.state.BoxState.take.Goals as goal
 

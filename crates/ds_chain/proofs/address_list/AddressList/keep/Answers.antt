@@ -1,5 +1,5 @@
 use Rattle.ds_cert.specs.Good.{is_good_address}
-use Rattle.ds_cert.specs.Kept.{same_address}
+use Rattle.ds_cert.specs.NoDoubles.{same_address}
 use Rattle.ds_cert.specs.Ranges.{AddressRange}
 use Rattle.ds_chain.proofs.Stores.{IsStore-push, address_itself, known_push}
 use Rattle.ds_chain.proofs.address_list.AddressList.keep.Goals as goal
@@ -9,5 +9,5 @@ invariant_of-self c =
     let items = c.self.inside.certs.items in
     rw (c.push_reserved.ensures.items, c.push_reserved-2.ensures.items) (
       IsStore-push same_address address_itself 64 AddressRange items c.args.cert c.self.invariant.0 (rw (← c.self.view_is) at c.requires.few) (rw (← c.self.view_is) at c.requires.new) c.requires.range,
-      known_push is_good_address items c.args.cert c.self.inside.goods.items c.is_good-good.result c.self.invariant.1 c.is_good-good.ensures.test,
+      known_push is_good_address items c.args.cert c.self.inside.good_flags.items c.is_good-good.result c.self.invariant.1 c.is_good-good.ensures.test,
     )

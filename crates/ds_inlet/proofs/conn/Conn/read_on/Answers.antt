@@ -1,7 +1,7 @@
 use Rattle.std.proofs.Common.{drop}
 use Rattle.std.proofs.lemmas.List.{take_rest}
-use Rattle.ds_inlet.specs.Fields.{connection_of}
-use Rattle.ds_inlet.specs.Seen.{seen_of}
+use Rattle.ds_inlet.specs.ConnInside.{connection_of}
+use Rattle.ds_inlet.specs.ItemInside.{seen_of}
 use Rattle.ds_inlet.proofs.Accepting.{reads_ok, reads_broken}
 use Rattle.ds_inlet.proofs.conn.Conn.read_on.Goals as goal
 

@@ -1,6 +1,6 @@
 use Rattle.std.proofs.Common.{refl, Some}
 use Rattle.ds_inlet.specs.declared.offer.ConnEntry.TheVariants as entries
-use Rattle.ds_inlet.specs.Fields.{connection_of}
+use Rattle.ds_inlet.specs.ConnInside.{connection_of}
 use Rattle.ds_inlet.proofs.Accepting.{judged_kept}
 use Rattle.std.proofs.lemmas.List.Elements.{All-rest}
 use Rattle.ds_msg.specs.Ranges.{MessageRange}

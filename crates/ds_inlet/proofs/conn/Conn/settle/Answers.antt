@@ -3,8 +3,8 @@ use Rattle.std.specs.List.{All}
 use Rattle.ds_msg.specs.Ranges.{MessageRange}
 use Rattle.ds_inlet.specs.declared.offer.ConnEntry.TheVariants as entries
 use Rattle.ds_inlet.specs.OfferedFrames.{OfferedFrame}
-use Rattle.ds_inlet.specs.Connections.{IsSeated, AreOfferedInRange, seat_of}
-use Rattle.ds_inlet.specs.Fields.{connection_of}
+use Rattle.ds_inlet.specs.Connections.{IsForInlet, AreOfferedInRange, lane_inlet_of}
+use Rattle.ds_inlet.specs.ConnInside.{connection_of}
 use Rattle.ds_inlet.proofs.Accepting.{settled_kept}
 use Rattle.ds_inlet.proofs.conn.Conn.settle.Goals as goal
 
@@ -14,7 +14,7 @@ invariant_of-self c =
     record {
       read = c.self.invariant.read;
       lane = c.self.invariant.lane;
-      offered = subst (λ (o : Option OfferedFrame). IsSeated (seat_of c.self.inside.inlets c.self.inside.lane) o) (sym c.take.ensures.after) tt;
+      offered = subst (λ (o : Option OfferedFrame). IsForInlet (lane_inlet_of c.self.inside.inlets c.self.inside.lane) o) (sym c.take.ensures.after) tt;
       offered_range = subst (λ (o : Option OfferedFrame). AreOfferedInRange o) (sym c.take.ensures.after) tt;
       hand = c.self.invariant.hand;
       passed = c.self.invariant.passed;
@@ -27,7 +27,7 @@ invariant_of-self-2 c =
     record {
       read = c.self.invariant.read;
       lane = c.self.invariant.lane;
-      offered = subst (λ (o : Option OfferedFrame). IsSeated (seat_of c.self.inside.inlets c.self.inside.lane) o) (sym c.take.ensures.after) tt;
+      offered = subst (λ (o : Option OfferedFrame). IsForInlet (lane_inlet_of c.self.inside.inlets c.self.inside.lane) o) (sym c.take.ensures.after) tt;
       offered_range = subst (λ (o : Option OfferedFrame). AreOfferedInRange o) (sym c.take.ensures.after) tt;
       hand = subst (λ (o : Option OfferedFrame). AreOfferedInRange o) there c.self.invariant.offered_range;
       passed = c.self.invariant.passed;

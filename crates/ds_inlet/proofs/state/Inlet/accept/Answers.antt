@@ -1,5 +1,5 @@
 use Rattle.ds_model.specs.Inlet.{Fresh, Stale}
-use Rattle.ds_inlet.specs.Sound.{inlet_of}
+use Rattle.ds_inlet.specs.InletInside.{inlet_of}
 use Rattle.ds_inlet.proofs.Counts.{grown, grown_last, stale_may}
 use Rattle.ds_inlet.proofs.state.Inlet.accept.Goals as goal
 

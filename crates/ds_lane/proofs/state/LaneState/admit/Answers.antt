@@ -1,7 +1,7 @@
 use Rattle.std.proofs.Common.{length, sym, ◌∙◌, subst}
 use Rattle.ds_model.specs.Lane.{Queued, QueueFull}
 use Rattle.ds_lane.specs.Lanes.{IsOn, sent_by}
-use Rattle.ds_lane.specs.Sound.{lane_of}
+use Rattle.ds_lane.specs.LaneInside.{lane_of}
 use Rattle.ds_lane.proofs.Grows.{grown, grown_last, full_may, free_may}
 use Rattle.ds_lane.proofs.state.LaneState.admit.Goals as goal
 

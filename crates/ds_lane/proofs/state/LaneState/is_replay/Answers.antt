@@ -1,6 +1,6 @@
 use Rattle.std.proofs.Common.{subst}
-use Rattle.ds_lane.specs.Lanes.{IsReplay, RoomyLane}
+use Rattle.ds_lane.specs.Lanes.{IsReplay, LaneWithCapacity}
 use Rattle.ds_lane.proofs.state.LaneState.is_replay.Goals as goal
 
 pub returns : goal.returns
-returns c = subst (λ (b : RoomyLane). IsReplay b.lane) c.self.view_is c.self.invariant.replay
+returns c = subst (λ (b : LaneWithCapacity). IsReplay b.lane) c.self.view_is c.self.invariant.replay

@@ -2,7 +2,7 @@ use Rattle.std.proofs.Common.{◌≡◌, ◌<◌, length, arith, rules}
 use Rattle.std.specs.Prelude.{min}
 use Rattle.ds_model.specs.Lane.{Lifted, frame_limit, LaneEntry as Change}
 use Rattle.ds_lane.specs.declared.batch.Waiting.{Waiting}
-use Rattle.ds_lane.specs.Sound.{lane_of}
+use Rattle.ds_lane.specs.LaneInside.{lane_of}
 use Rattle.ds_lane.proofs.Grows.{grown, grown_last, lift_may}
 use Rattle.ds_lane.proofs.state.LaneState.lift.Goals as goal
 

@@ -1,6 +1,6 @@
 use Rattle.std.proofs.Common.{◌≡◌, length, arith}
 use Rattle.std.proofs.lemmas.List.{take_at}
-use Rattle.lms_sig.specs.Kept.{HoldsFrom}
+use Rattle.lms_sig.specs.TreeNodes.{HoldsFrom}
 use Rattle.lms_sig.proofs.tree.TreeKey.make.Goals as goal
 
 pub invariant_of-result : goal.invariant_of-result

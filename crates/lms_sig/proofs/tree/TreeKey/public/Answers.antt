@@ -1,6 +1,6 @@
 use Rattle.std.proofs.Common.{◌≡◌, ◌<◌, length, take, [], ◌∙◌, arith}
 use Rattle.std.proofs.lemmas.List.{get_or_read}
-use Rattle.lms_sig.specs.Kept.{IsNode}
+use Rattle.lms_sig.specs.TreeNodes.{IsNode}
 use Rattle.lms_sig.specs.Merkle.{public_key}
 use Rattle.lms_sig.specs.Parameters.{height}
 use Rattle.lms_sig.proofs.Lengths.{length-u32str}

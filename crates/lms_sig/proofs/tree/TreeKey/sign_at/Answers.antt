@@ -1,5 +1,5 @@
 use Rattle.std.proofs.Common.{◌≡◌, ◌+◌, ◌++◌}
-use Rattle.lms_sig.specs.Kept.{HoldsFrom}
+use Rattle.lms_sig.specs.TreeNodes.{HoldsFrom}
 use Rattle.lms_sig.specs.Merkle.{path, signature}
 use Rattle.lms_sig.specs.Parameters.{height, leaf_count}
 use Rattle.lms_sig.proofs.tree.TreeKey.sign_at.Goals as goal

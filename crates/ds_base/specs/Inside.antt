@@ -1,6 +1,6 @@
 -- What contracts see of the fields of the objects in memory.
 use Rattle.std.specs.Prelude.{drop}
-use Rattle.ds_base.specs.Plans.{Plan}
+use Rattle.ds_base.specs.FaultPlans.{PlannedFaults}
 use Rattle.ds_base.specs.Memory.{Supply, CalmSupply, Output, CalmMarks, Marks, Connections}
 use Rattle.ds_base.specs.Edge.{Reading, Writing, Folder}
 use Rattle.ds_base.specs.declared.fault_plan.FaultPlan.TheInside.{Inside as PlanFields}
@@ -15,7 +15,7 @@ use Rattle.ds_base.specs.declared.write_sink.WriteSink.TheInside.{Inside as Writ
 use Rattle.ds_base.specs.declared.file_keeper.FileKeeper.TheInside.{Inside as FileKeeperFields}
 use Rattle.std.specs.Vec.Iter.{into_iter_items}
 
-abbrev pub plan_seen : PlanFields → Plan
+abbrev pub plan_seen : PlanFields → PlannedFaults
 plan_seen p = record { failing = p.failing.items; made = p.made; faults = p.faults }
 
 abbrev pub calm_supply_of : CalmSourceFields → CalmSupply

@@ -14,7 +14,7 @@ use Rattle.ds_model.specs.Mailbox.{PutIn, FoundFull, TookOut}
 use Rattle.ds_model.specs.World.{Mail, World}
 use Rattle.ds_model.specs.Step.{run}
 use Rattle.ds_model.specs.Views.{proc_at}
-use Rattle.ds_model.specs.SmallWorlds.{empty_scheme, only_key, only_host, one_process, steps, notes_of, box_in}
+use Rattle.ds_model.specs.Examples.OneHost.{empty_scheme, only_key, only_host, one_process, steps, notes_of, box_in}
 
 -- another host, for which outsiders act
 abbrev pub far_key : PubKey
@@ -29,7 +29,7 @@ near_host = record only_host { keys = only_key ∷ far_key ∷ [] }
 
 -- both, without a connection
 abbrev pub near_and_far : Plan
-near_and_far = record { hosts = near_host ∷ far_host ∷ []; wires = [] }
+near_and_far = record { hosts = near_host ∷ far_host ∷ []; conn_plans = [] }
 
 -- categories of both hosts
 abbrev pub near : Kind → ℕ → Category

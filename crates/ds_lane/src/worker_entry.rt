@@ -5,7 +5,7 @@ use ds_label::Rule;
 
 /// What a worker did.
 #[derive(Clone, Copy, Debug)]
-pub enum EndAct {
+pub enum WorkerAct {
     /// It wrote a frame.
     Framed {
         /// The frame's number, which is the leaf of its signature.
@@ -26,9 +26,9 @@ pub enum EndAct {
 
 /// An entry of a worker: when, and what it did.
 #[derive(Clone, Copy, Debug)]
-pub struct EndEntry {
+pub struct WorkerEntry {
     /// The stamp of the event.
     pub stamp: u64,
     /// What was done.
-    pub act: EndAct,
+    pub act: WorkerAct,
 }

@@ -11,20 +11,20 @@ use Rattle.ds_desk.specs.declared.fault.EntryFault.TheVariants as entry_faults
 use Rattle.ds_desk.specs.declared.fault.DeskFault.{DeskFault}
 use Rattle.ds_desk.specs.declared.fault.DeskFault.TheVariants as desk_faults
 use Rattle.ds_desk.specs.Signing.{desk_scheme, desk_plan}
-use Rattle.ds_desk.specs.Desks.{Kept, entered}
+use Rattle.ds_desk.specs.Desks.{DeskView, entered}
 
 -- the entry of an act, and the answer by it
-abbrev pub entry_for : Scheme → HostPlan → Kept → Act → Change
+abbrev pub entry_for : Scheme → HostPlan → DeskView → Act → Change
 entry_for s plan k act = act_entry (desk_scheme s) (desk_plan plan k.here k.key) k.desk act
 
-abbrev pub reply_for : Scheme → HostPlan → Kept → Act → Reply
+abbrev pub reply_for : Scheme → HostPlan → DeskView → Act → Reply
 reply_for s plan k act = reply_of (desk_scheme s) (desk_plan plan k.here k.key) k.desk (entry_for s plan k act)
 
 -- the same of an import, by the certificate that its bytes spell
-abbrev pub import_for : Scheme → Kept → Option Cert → Change
+abbrev pub import_for : Scheme → DeskView → Option Cert → Change
 import_for s k read = import_entry (desk_scheme s) k.desk read
 
-abbrev pub reply_to : Scheme → HostPlan → Kept → Option Cert → Reply
+abbrev pub reply_to : Scheme → HostPlan → DeskView → Option Cert → Reply
 reply_to s plan k read = reply_of (desk_scheme s) (desk_plan plan k.here k.key) k.desk (import_for s k read)
 
 -- The answer is the model's; where memory ran out it is none.
@@ -34,7 +34,7 @@ Answers told (Err (entry_faults.Refused rule)) reply = reply ≡ Refuse rule
 Answers told (Err entry_faults.NoMemory) reply = Unit {0}
 
 -- The act's entry was made, and no other; where memory ran out none was.
-abbrev pub Enters : {A : Type 0} → Result A EntryFault → (old : Kept) → (after : Kept) → (new : Kept) → Type 0
+abbrev pub Enters : {A : Type 0} → Result A EntryFault → (old : DeskView) → (after : DeskView) → (new : DeskView) → Type 0
 Enters (Ok a) old after new = new ≡ after
 Enters (Err (entry_faults.Refused rule)) old after new = new ≡ after
 Enters (Err entry_faults.NoMemory) old after new = new ≡ old
@@ -46,7 +46,7 @@ AnswersOver told (Err (desk_faults.Refused rule)) reply = reply ≡ Refuse rule
 AnswersOver told (Err desk_faults.KeeperFault) reply = Unit {0}
 AnswersOver told (Err desk_faults.NoMemory) reply = Unit {0}
 
-abbrev pub EntersOver : {A : Type 0} → Result A DeskFault → (old : Kept) → (after : Kept) → (new : Kept) → Type 0
+abbrev pub EntersOver : {A : Type 0} → Result A DeskFault → (old : DeskView) → (after : DeskView) → (new : DeskView) → Type 0
 EntersOver (Ok a) old after new = new ≡ after
 EntersOver (Err (desk_faults.Refused rule)) old after new = new ≡ after
 EntersOver (Err desk_faults.KeeperFault) old after new = new ≡ old

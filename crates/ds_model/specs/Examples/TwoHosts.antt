@@ -15,7 +15,7 @@ use Rattle.ds_model.specs.Desk.{Desk}
 use Rattle.ds_model.specs.World.{Process, LaneLine, QueuedLine, FramedLine, Conn, FrameLine, PassLine, Host, World}
 use Rattle.ds_model.specs.Step.{Event, Step, Frame, Arrive, Accept, Deliver, step, run}
 use Rattle.ds_model.specs.Schedule.{Test, canonical}
-use Rattle.ds_model.specs.SmallWorlds.{empty_scheme, only_key, other_key, new_conn, notes_of}
+use Rattle.ds_model.specs.Examples.OneHost.{empty_scheme, only_key, other_key, new_conn, notes_of}
 
 -- the one message goes from the host with the other key to the host with the only key
 
@@ -67,7 +67,7 @@ sender = record { key = other_key; silent = false; signing = no_signing; keys = 
 
 -- both, and the lane's connection
 abbrev pub two_hosts : Plan
-two_hosts = record { hosts = receiver ∷ sender ∷ []; wires = record { host = 0; source = OfLane 1 0 } ∷ [] }
+two_hosts = record { hosts = receiver ∷ sender ∷ []; conn_plans = record { host = 0; source = OfLane 1 0 } ∷ [] }
 
 -- the world at the start
 

@@ -55,7 +55,7 @@ only_host = record { key = only_key; silent = false; signing = no_signing; keys 
 
 -- the plan of that host alone
 abbrev pub one_host : Plan
-one_host = record { hosts = only_host ∷ []; wires = [] }
+one_host = record { hosts = only_host ∷ []; conn_plans = [] }
 
 -- the world in which the process has this script, label and ownership
 abbrev pub one_process : List Op → (label own : List Category) → World
@@ -171,7 +171,7 @@ reading_host = record only_host { inlets = record { exporter = other_key; lane =
 
 -- the plan of that host and two links to it
 abbrev pub two_links : Plan
-two_links = record { hosts = reading_host ∷ []; wires = record { host = 0; source = Link } ∷ record { host = 0; source = Link } ∷ [] }
+two_links = record { hosts = reading_host ∷ []; conn_plans = record { host = 0; source = Link } ∷ record { host = 0; source = Link } ∷ [] }
 
 -- a connection on which nothing has come
 abbrev pub new_conn : Conn

@@ -3,7 +3,7 @@ use Rattle.std.specs.Prelude.{IfOk}
 use Rattle.ds_chain.specs.Keys.{same_key}
 use Rattle.ds_chain.specs.Shortest.{shortest_chain}
 use Rattle.ds_chain.proofs.Numbered.{answer_holds, answer_shortest}
-use Rattle.ds_chain.proofs.hop_list.HopList.search.Goals as goal
+use Rattle.ds_chain.proofs.edge_list.EdgeList.search.Goals as goal
 
 pub returns-clause-holds : goal.returns-clause-holds
 returns-clause-holds c =

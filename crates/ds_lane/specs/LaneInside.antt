@@ -2,12 +2,12 @@
 use Rattle.std.specs.Prelude.{◌≡◌, ◌-◌, min, vec_len, vec_capacity}
 use Rattle.std.specs.VecDeque.{deque_len, deque_capacity}
 use Rattle.ds_lane.specs.declared.state.LaneState.TheInside.{Inside}
-use Rattle.ds_lane.specs.Lanes.{Lane, RoomyLane, IsReplay, last_stamp}
+use Rattle.ds_lane.specs.Lanes.{Lane, LaneWithCapacity, IsReplay, last_stamp}
 
 abbrev pub lane_of : Inside → Lane
 lane_of s = record { cert = s.cert; room = s.room; opening = s.opening.items; before = s.before; history = s.history.items; waiting = s.waiting.items }
 
-abbrev pub seen_of : Inside → RoomyLane
+abbrev pub seen_of : Inside → LaneWithCapacity
 seen_of s = record { lane = lane_of s; spare = min (vec_capacity s.history - vec_len s.history) (deque_capacity s.waiting - deque_len s.waiting) }
 
 pub record IsSound (s : Inside) : Type 0 where

@@ -2,9 +2,9 @@
 use Rattle.std.specs.Prelude.{◌≡◌, ℕ, List, [], ◌∷◌, ◌++◌, codes}
 use Rattle.ds_model.specs.Text.{text_of}
 use Rattle.ds_model.specs.Print.{Printing, printed}
-use Rattle.ds_model.specs.SmallWorlds.{one_host, printing, after_steps}
-use Rattle.ds_model.specs.Scripted.{near_and_far, scripted}
-use Rattle.ds_model.specs.Carried.{two_hosts, after_letter}
+use Rattle.ds_model.specs.Examples.OneHost.{one_host, printing, after_steps}
+use Rattle.ds_model.specs.Examples.Script.{near_and_far, scripted}
+use Rattle.ds_model.specs.Examples.TwoHosts.{two_hosts, after_letter}
 
 -- how things are printed, with these names
 abbrev pub named : List (List ℕ) → Printing

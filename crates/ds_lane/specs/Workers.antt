@@ -8,8 +8,8 @@ use Rattle.ds_msg.specs.Spelling.{spelling_of_message}
 use Rattle.ds_frame.specs.Spelling.{part_of_frame, spelling_of_frame, spelling_of_hello}
 use Rattle.lms_state.specs.Signers.{Signing, leaves_of, next_signature, one_leaf_on}
 use Rattle.ds_lane.specs.declared.batch.Waiting.{Waiting}
-use Rattle.ds_lane.specs.declared.lines.EndEntry.{EndEntry}
-use Rattle.ds_lane.specs.declared.lines.EndAct.TheVariants.{Framed, Dropped}
+use Rattle.ds_lane.specs.declared.worker_entry.WorkerEntry.{WorkerEntry}
+use Rattle.ds_lane.specs.declared.worker_entry.WorkerAct.TheVariants.{Framed, Dropped}
 use Rattle.ds_lane.specs.Lanes.{WaitsOn}
 
 -- the actor and the lane's certificate; the lane key and its next leaf; the messages that it lifted; the stream that it
@@ -20,10 +20,10 @@ pub record Worker : Type 0 where
   pub signing : Signing
   pub hand : List Waiting
   pub stream : List ℕ
-  pub entries : List EndEntry
+  pub entries : List WorkerEntry
 
 -- a worker, and for how many entries there is memory
-pub record RoomyWorker : Type 0 where
+pub record WorkerWithCapacity : Type 0 where
   pub worker : Worker
   pub spare : ℕ
 
@@ -58,10 +58,10 @@ holding batch e = record e { hand = batch }
 abbrev pub frame_of : Signing → List Waiting → List ℕ
 frame_of s hand = spelling_of_frame s.next (bodies_of hand) (next_signature s (part_of_frame s.next (bodies_of hand)))
 
-abbrev pub framed_entry : (stamp number count : ℕ) → EndEntry
+abbrev pub framed_entry : (stamp number count : ℕ) → WorkerEntry
 framed_entry stamp number count = record { stamp = stamp; act = Framed number count }
 
-abbrev pub dropped_entry : (stamp : ℕ) → Rule → Waiting → EndEntry
+abbrev pub dropped_entry : (stamp : ℕ) → Rule → Waiting → WorkerEntry
 dropped_entry stamp rule w = record { stamp = stamp; act = Dropped rule w.from w.message.slot }
 
 -- its hand as one frame

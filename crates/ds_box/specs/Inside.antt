@@ -2,12 +2,12 @@
 use Rattle.std.specs.Prelude.{◌≡◌, ◌-◌, min, vec_len, vec_capacity}
 use Rattle.std.specs.VecDeque.{deque_len, deque_capacity}
 use Rattle.ds_box.specs.declared.state.BoxState.TheInside.{Inside}
-use Rattle.ds_box.specs.Boxes.{Mailbox, RoomyMailbox, IsReplay, last_stamp}
+use Rattle.ds_box.specs.Boxes.{Mailbox, MailboxWithCapacity, IsReplay, last_stamp}
 
 abbrev pub mailbox_of : Inside → Mailbox
 mailbox_of s = record { label = s.label; owner = s.owner; room = s.room; opening = s.opening.items; before = s.before; history = s.history.items; waiting = s.waiting.items }
 
-abbrev pub seen_of : Inside → RoomyMailbox
+abbrev pub seen_of : Inside → MailboxWithCapacity
 seen_of s = record { mailbox = mailbox_of s; spare = min (vec_capacity s.history - vec_len s.history) (deque_capacity s.waiting - deque_len s.waiting) }
 
 pub record IsSound (s : Inside) : Type 0 where

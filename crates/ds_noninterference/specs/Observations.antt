@@ -9,7 +9,7 @@ use Rattle.ds_model.specs.Scheme.{Scheme}
 use Rattle.ds_model.specs.Plan.{HostPlan, Plan, host_plan}
 use Rattle.ds_model.specs.Desk.{Act}
 use Rattle.ds_model.specs.World.{Process, Mail, World}
-use Rattle.ds_model.specs.Asking.{Ask, Stay, Alone, Put, Admit, TakeFrom, Do, Judge, ask}
+use Rattle.ds_model.specs.ProcessStep.{Ask, Waits, Internal, Put, Admit, TakeFrom, PublicAct, AsksJudgement, ask}
 use Rattle.ds_model.specs.Step.{Event, Step, Frame, Arrive, Accept, Deliver, Tick, Inject, Copy, resolve, step}
 use Rattle.ds_model.specs.Views.{proc_in}
 use Rattle.ds_noninterference.specs.High.{is_in, high_proc, high_lane, high_conn}
@@ -35,11 +35,11 @@ unless_has false r = Some r
 abbrev pub released : Category → Ask → Option Released
 released c (Put b m next) = unless_has (has by_name c m.label) (ToBox b m)
 released c (Admit l m next) = unless_has (has by_name c m.label) (ToLane l m)
-released c (Do act reg host) = Some (ByAct act)
-released c Stay = None
-released c (Alone next) = None
+released c (PublicAct act reg host) = Some (ByAct act)
+released c Waits = None
+released c (Internal next) = None
 released c (TakeFrom b reg slot) = None
-released c (Judge m) = None
+released c (AsksJudgement m) = None
 
 -- the mark of a high process's step
 abbrev pub mark_released : (host proc : ℕ) → Option Released → Mark

@@ -10,22 +10,22 @@ use Rattle.ds_model.specs.World.{Waiting, Worker, LaneLine, QueuedLine, FullLine
 
 -- nothing; the first waiting messages; or that the desk judges those in hand again
 pub data LaneAsk : Type 0 where
-  Wait : LaneAsk
-  Lift : LaneAsk
-  Check : LaneAsk
+  WorkerWaits : LaneAsk
+  Lifts : LaneAsk
+  AsksRecheck : LaneAsk
 
 -- with an empty hand it lifts, where its key has a leaf left
 abbrev pub lane_ask_hand : Scheme → LanePlan → Worker → List Waiting → LaneAsk
-lane_ask_hand s plan e [] = if s.has_leaf plan.signing e.leaf then Lift else Wait
-lane_ask_hand s plan e (m ∷ rest) = Check
+lane_ask_hand s plan e [] = if s.has_leaf plan.signing e.leaf then Lifts else WorkerWaits
+lane_ask_hand s plan e (m ∷ rest) = AsksRecheck
 
 -- what the worker asks, by its hand
 abbrev pub lane_ask : Scheme → LanePlan → Worker → LaneAsk
 lane_ask s plan e = lane_ask_hand s plan e e.hand
 
 -- the lifted messages are in hand
-abbrev pub told_lifted : List Waiting → Worker → Worker
-told_lifted ms e = record e { hand = ms }
+abbrev pub lifted_after_reply : List Waiting → Worker → Worker
+lifted_after_reply ms e = record e { hand = ms }
 
 -- the sending exporter's rule of a message on a lane, at the desk's moment
 abbrev pub frame_rule : Scheme → Desk → Waiting → Option Rule
@@ -46,8 +46,8 @@ with_frame s plan e [] = record e { hand = [] }
 with_frame s plan e (m ∷ rest) = record { hand = []; leaf = suc e.leaf; stream = e.stream ++ s.frame plan.signing e.leaf (map (λ w. w.message) (m ∷ rest)) }
 
 -- the worker after the desk judged its hand
-abbrev pub told_checked : Scheme → LanePlan → Desk → Worker → Worker
-told_checked s plan d e = with_frame s plan e (still_good s d e.hand)
+abbrev pub checked_after_reply : Scheme → LanePlan → Desk → Worker → Worker
+checked_after_reply s plan d e = with_frame s plan e (still_good s d e.hand)
 
 -- WHAT IS PRINTED
 

@@ -4,7 +4,7 @@ use Rattle.std.specs.List.{All}
 use Rattle.ds_msg.specs.Ranges.{MessageRange}
 use Rattle.ds_inlet.specs.Accepting.{IsReadSoFar}
 use Rattle.ds_inlet.specs.declared.conn.Conn.TheInside.{Inside}
-use Rattle.ds_inlet.specs.Connections.{Connection, RoomyConnection, HasInlet, IsSeated, AreOfferedInRange, IsShortPassed, seat_of}
+use Rattle.ds_inlet.specs.Connections.{Connection, ConnectionWithCapacity, HasInlet, IsForInlet, AreOfferedInRange, IsShortPassed, lane_inlet_of}
 
 abbrev pub connection_of : Inside → Connection
 connection_of s = record {
@@ -19,13 +19,13 @@ connection_of s = record {
   entries = s.entries.items;
 }
 
-abbrev pub roomy_of : Inside → RoomyConnection
+abbrev pub roomy_of : Inside → ConnectionWithCapacity
 roomy_of s = record { conn = connection_of s; spare = vec_capacity s.entries - vec_len s.entries; space = vec_capacity s.bytes - vec_len s.bytes }
 
 pub record IsKept (s : Inside) : Type 0 where
   pub read : s.at ≤ length s.bytes.items
   pub lane : HasInlet s.inlets s.lane
-  pub offered : IsSeated (seat_of s.inlets s.lane) s.offered
+  pub offered : IsForInlet (lane_inlet_of s.inlets s.lane) s.offered
   pub offered_range : AreOfferedInRange s.offered
   pub hand : All MessageRange s.hand.items
   pub passed : IsShortPassed s.passed

@@ -5,41 +5,41 @@ ghost use Rattle.ds_chain.specs.Keys.{same_key};
 ghost use Rattle.ds_chain.specs.Shortest.{shortest_chain};
 
 use crate::chain::Chain;
-use crate::hop::Hop;
+use crate::edge::Edge;
 use crate::key_search::search_keys;
 use crate::numbers::number_of;
 use ds_label::PubKey;
 use std::alloc::{AllocError, Global};
 use std::marker::Model;
 
-/// A list of certificates as a search sees them: at each place the hop of one that counts, or none.
+/// A list of certificates as a search sees them: at each place the edge of one that counts, or none.
 #[derive(Drop)]
-pub struct HopList {
+pub struct EdgeList {
     keys: Vec<PubKey>,
-    hops: Vec<Option<Hop<usize>>>,
+    edges: Vec<Option<Edge<usize>>>,
 }
 
-impl Model for HopList {
+impl Model for EdgeList {
     ghost use Rattle.std.specs.Prelude.{List, Option};
-    ghost use Rattle.ds_chain.specs.declared.hop.Hop.{Hop};
+    ghost use Rattle.ds_chain.specs.declared.edge.Edge.{Edge};
     ghost use Rattle.ds_label.specs.declared.category.PubKey.{PubKey};
     ghost use Rattle.ds_chain.specs.Naming.{hops_of, AreNumbered};
 
-    ghost Value = { List (Option (Hop PubKey)) };
+    ghost Value = { List (Option (Edge PubKey)) };
 
-    ghost view = { λ list. hops_of list.keys.items list.hops.items };
+    ghost view = { λ list. hops_of list.keys.items list.edges.items };
 
-    ghost invariant = { λ list. AreNumbered list.keys.items list.hops.items };
+    ghost invariant = { λ list. AreNumbered list.keys.items list.edges.items };
 }
 
-impl HopList {
+impl EdgeList {
     /// No certificates.
     pub fn new(alloc: Global) -> Self
         ensures { result ≡ [] }
     {
-        HopList {
+        EdgeList {
             keys: Vec::new(alloc),
-            hops: Vec::new(alloc),
+            edges: Vec::new(alloc),
         }
     }
 
@@ -47,14 +47,14 @@ impl HopList {
     pub fn len(&self) -> usize
         ensures { result ≡ length self.now }
     {
-        self.hops.len()
+        self.edges.len()
     }
 
     /// Whether there are none.
     pub fn is_empty(&self) -> bool
         ensures { IsTrue result ↔ (self.now ≡ []) }
     {
-        self.hops.is_empty()
+        self.edges.is_empty()
     }
 
     /// Goes on to the next place, with a certificate that counts: `by` signed it, and it names `to`.
@@ -64,7 +64,7 @@ impl HopList {
     {
         let by = number_of(&mut self.keys, by)?;
         let to = number_of(&mut self.keys, to)?;
-        self.hops.push(Some(Hop { by, to }))?;
+        self.edges.push(Some(Edge { by, to }))?;
         Ok(())
     }
 
@@ -73,7 +73,7 @@ impl HopList {
         ensures ok { OnOk result (self.new ≡ self.old ++ None ∷ []) }
         ensures err { OnErr result (self.new ≡ self.old) }
     {
-        self.hops.push(None)?;
+        self.edges.push(None)?;
         Ok(())
     }
 
@@ -90,6 +90,6 @@ impl HopList {
         ensures holds { IfOk result (λ answer. IsSome answer ↔ IsTrue (holds same_key self.now creator.now key.now)) }
         ensures shortest { IfOk result (λ answer. IfSome answer (λ chain. IsShortestChain self.now creator.now chain key.now)) }
     {
-        search_keys(alloc, &self.keys, &self.hops, creator, key)
+        search_keys(alloc, &self.keys, &self.edges, creator, key)
     }
 }

@@ -6,23 +6,23 @@ abbrev pub one_more : ℕ → ℕ
 one_more n = max n (min (n + 1) (2 ^ 64 - 1))
 
 -- the calls that are to fail, counted from 1; how many calls were made; how many faults came
-pub record Plan : Type 0 where
+pub record PlannedFaults : Type 0 where
   pub failing : List ℕ
   pub made : ℕ
   pub faults : ℕ
 
 -- before any call
-abbrev pub plan_of : List ℕ → Plan
+abbrev pub plan_of : List ℕ → PlannedFaults
 plan_of calls = record { failing = calls; made = 0; faults = 0 }
 
 -- the next call is to fail
-abbrev pub IsDue : Plan → Type 0
+abbrev pub IsDue : PlannedFaults → Type 0
 IsDue p = Contains p.failing (one_more p.made)
 
 -- after a call that didn't fail
-abbrev pub passed : Plan → Plan
+abbrev pub passed : PlannedFaults → PlannedFaults
 passed p = record { failing = p.failing; made = one_more p.made; faults = p.faults }
 
 -- after a call that failed
-abbrev pub failed : Plan → Plan
+abbrev pub failed : PlannedFaults → PlannedFaults
 failed p = record { failing = p.failing; made = one_more p.made; faults = one_more p.faults }

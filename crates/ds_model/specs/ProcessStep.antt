@@ -27,13 +27,13 @@ use Rattle.ds_model.specs.World.{Process, Mail}
 -- message of a mailbox into a register; a public act, with the register and the host for a delegation; or that the desk
 -- judges a message to another host.
 pub data Ask : Type 0 where
-  Stay : Ask
-  Alone : Process → Ask
+  Waits : Ask
+  Internal : Process → Ask
   Put : (box : ℕ) → Mail Category → Process → Ask
   Admit : (lane : ℕ) → Message → Process → Ask
   TakeFrom : (box register slot : ℕ) → Ask
-  Do : Act → (register host : ℕ) → Ask
-  Judge : Message → Ask
+  PublicAct : Act → (register host : ℕ) → Ask
+  AsksJudgement : Message → Ask
 
 -- the end of an operation: its note, and the next place
 abbrev pub noted : Note → Process → Process
@@ -45,7 +45,7 @@ noted_with note reg bytes x = record x { course = finished (Some note) (Some (re
 
 -- a refused operation changes nothing but the place and the notes
 abbrev pub refused : Rule → Process → Ask
-refused rule x = Alone (noted (notes.Refused rule) x)
+refused rule x = Internal (noted (notes.Refused rule) x)
 
 -- the categories of the process's host, and those of its own list, are the ones that it may use
 abbrev pub usable : HostPlan → Process → Category → Bool
@@ -111,7 +111,7 @@ send_here plan x m None (Into b) = Put b (mail_of plan.key m) (noted notes.Sent 
 -- a send to another host: the process's rules, then the desk judges
 abbrev pub send_away : Process → Message → Option Rule → Ask
 send_away x m (Some rule) = refused rule x
-send_away x m None = Judge m
+send_away x m None = AsksJudgement m
 
 -- either of these, by the receiver's key
 abbrev pub send : HostPlan → Process → Message → Ask
@@ -133,7 +133,7 @@ take_rule plan p x (Some b) = first_rule (
 -- a refusal, or the take
 abbrev pub take_from : Process → (reg slot : ℕ) → Option ℕ → Option Rule → Ask
 take_from x reg slot place (Some rule) = refused rule x
-take_from x reg slot None None = Stay
+take_from x reg slot None None = Waits
 take_from x reg slot (Some b) None = TakeFrom b reg slot
 
 -- LABELS AND CATEGORIES
@@ -141,7 +141,7 @@ take_from x reg slot (Some b) None = TakeFrom b reg slot
 -- a refusal, or the new label
 abbrev pub relabel : Process → List Category → Option Rule → Ask
 relabel x label (Some rule) = refused rule x
-relabel x label None = Alone (noted (notes.SetLabel label) (record x { label = label }))
+relabel x label None = Internal (noted (notes.SetLabel label) (record x { label = label }))
 
 -- the category that the process makes next
 abbrev pub new_category : HostPlan → (proc : ℕ) → Process → Kind → Category
@@ -150,7 +150,7 @@ new_category plan p x kind = next_category plan.key p x.made kind
 -- a made category is owned and usable
 abbrev pub make : Process → Category → Option Rule → Ask
 make x c (Some rule) = refused rule x
-make x c None = Alone (noted (notes.NewCat c) (record x { own = with_member by_name c x.own; names = with_name c x.names; made = suc x.made }))
+make x c None = Internal (noted (notes.NewCat c) (record x { own = with_member by_name c x.own; names = with_name c x.names; made = suc x.made }))
 
 -- PUBLIC ACTS
 
@@ -161,7 +161,7 @@ publish_rule x = may_publish by_name x.label x.own
 -- a refusal, or the act
 abbrev pub publish : Process → Act → (reg host : ℕ) → Option Rule → Ask
 publish x act reg host (Some rule) = refused rule x
-publish x act reg host None = Do act reg host
+publish x act reg host None = PublicAct act reg host
 
 -- THE STEP
 
@@ -175,11 +175,11 @@ ask_outer plan p x (Some (ops.Delegate reg c host from until)) = publish x (Dele
     (first_rule (unless (usable plan x c) (NotKnown c) ∷ unless (has by_name c x.own) NotHeld ∷ publish_rule x ∷ []))
 ask_outer plan p x (Some (ops.Map c)) = publish x (Mapping c) 0 0 (publish_rule x)
 ask_outer plan p x (Some (ops.Import reg)) = publish x (Importing (register reg x.course)) 0 0 (publish_rule x)
-ask_outer plan p x _ = Stay
+ask_outer plan p x _ = Waits
 
 -- what an operation inside the process makes of it
 abbrev pub ask_inner : HostPlan → (proc : ℕ) → Process → Option Course → Ask
-ask_inner plan p x (Some course) = Alone (record x { course = course })
+ask_inner plan p x (Some course) = Internal (record x { course = course })
 ask_inner plan p x None = ask_outer plan p x (slice_get x.script x.course.place)
 
 -- the place of the lane to this exporter with exactly this label
@@ -188,7 +188,7 @@ lane_of plan to label = position (λ l. same_key l.cert.receiver to && same_labe
 
 -- A judged message goes onto its lane without being judged again, and `sent` is noted whether there is room or not.
 abbrev pub queue_at : Process → Message → Option ℕ → Ask
-queue_at x m None = Stay
+queue_at x m None = Waits
 queue_at x m (Some l) = Admit l m (noted notes.Sent (record x { hand = None }))
 
 -- with a judged message in hand it is queued; else the operation at the place is done
@@ -210,9 +210,9 @@ granted m x =
     else x
 
 -- the oldest message of the mailbox; on an empty one the process waits
-abbrev pub told_taken : (reg slot : ℕ) → Option (Mail Category) → Process → Process
-told_taken reg slot None x = x
-told_taken reg slot (Some m) x = noted_with (notes.Took slot (length m.payload) (can_grant by_name x.own x.clear m.own m.clear)) reg m.payload (granted m x)
+abbrev pub taken_after_reply : (reg slot : ℕ) → Option (Mail Category) → Process → Process
+taken_after_reply reg slot None x = x
+taken_after_reply reg slot (Some m) x = noted_with (notes.Took slot (length m.payload) (can_grant by_name x.own x.clear m.own m.clear)) reg m.payload (granted m x)
 
 -- the end of a public act, by its kind and the desk's reply; a reply of another act can't come
 
@@ -246,10 +246,10 @@ act_names (Mapping c) (Local number) names = with_name c names
 act_names _ _ names = names
 
 -- the process after its public act
-abbrev pub told_act : (reg host : ℕ) → Act → Reply → Process → Process
-told_act reg host act reply x = record x { course = act_course reg host act reply x.course; names = act_names act reply x.names }
+abbrev pub act_after_reply : (reg host : ℕ) → Act → Reply → Process → Process
+act_after_reply reg host act reply x = record x { course = act_course reg host act reply x.course; names = act_names act reply x.names }
 
 -- the judgement of a message to another host, and the certificates that go with it
-abbrev pub told_judged : Message → List (List ℕ) → Option Rule → Process → Process
-told_judged m certs (Some rule) x = noted (notes.Refused rule) x
-told_judged m certs None x = record x { hand = Some (record m { certs = certs }) }
+abbrev pub judged_after_reply : Message → List (List ℕ) → Option Rule → Process → Process
+judged_after_reply m certs (Some rule) x = noted (notes.Refused rule) x
+judged_after_reply m certs None x = record x { hand = Some (record m { certs = certs }) }
