@@ -64,16 +64,6 @@ second_holds true true first second e = refl
 second_holds true false first second e = absurd (grind arith)
 second_holds false two first second e = absurd (grind arith)
 
--- a signature has at most 2,508 bytes
-longest : (lms : LmsType) (ots : OtsType) → signature_length (record { lms = lms; ots = ots }) ≤ 2508
-longest H5 W4 = omega arith
-longest H5 W8 = omega arith
-longest H10 W4 = omega arith
-longest H10 W8 = omega arith
-
-pub short_signature : (made : List ℕ) (s : Signing) (message : List ℕ) → made ≡ next_signature s message → length made ≤ 2508
-short_signature made s message is = rw (is, length-signature s.key.params s.key.seed s.key.id s.next message) (longest s.key.params.lms s.key.params.ots)
-
 -- the numbers of the types name them
 types_again : (lms : LmsType) (ots : OtsType) → unwrap_or (both_types (lms_type (lms_code lms)) (ots_type (ots_code ots))) (record { lms = H5; ots = W4 }) ≡ record { lms = lms; ots = ots }
 types_again H5 W4 = refl
