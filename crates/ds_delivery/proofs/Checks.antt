@@ -27,7 +27,7 @@ use Rattle.ds_model.specs.Desk.{Desk}
 use Rattle.ds_model.specs.World.{Process, Mail, Mailbox, Waiting, Queue, Worker, LaneLine, QueuedLine, FullLine, FramedLine, DroppedLine, PassLine, DropLine, Conn, Host, World, Passed}
 use Rattle.ds_model.specs.ProcessStep.{Ask, Put, Admit, TakeFrom, AsksJudgement, noted, refused, box_of, label_of, Target, Not, Into, target, judge_box, message_of, send_rule, mail_of, send_here, send_away, send, take_rule, take_from, ask_outer, ask_inner, queue_at, ask_hand, ask, taken_after_reply, judged_after_reply}
 use Rattle.ds_model.specs.WorkerStep.{WorkerWaits, Lifts, AsksRecheck, lane_ask_hand, lane_ask, frame_rule, passes, still_good, checked_after_reply, lifted_after_reply, dropped_line, framed_line, checked_lines, admitted_line}
-use Rattle.ds_model.specs.ConnectionStep.{ConnWaits, AsksInlet, AsksArrival, PutsPassed, peer, inlet_of, fresh_frame, stale_frame, take_frame, frame_from, accept_item, accept_free, accept, put_passed, deliver_to, deliver_from, deliver, target_rule, judge_delivery, delivery_after_reply, passed_of}
+use Rattle.ds_model.specs.ConnectionStep.{ConnAsk, ConnWaits, AsksInlet, AsksArrival, PutsPassed, peer, inlet_of, fresh_frame, stale_frame, take_frame, frame_from, accept_item, accept_free, accept, put_passed, deliver_to, deliver_from, deliver, target_rule, judge_delivery, delivery_after_reply, passed_of}
 use Rattle.ds_model.specs.Step.{Step, Frame, Accept, Deliver, judged, attached, arrived, perform, checked_in, front_of, perform_lane, step_lane, fresh_in, perform_conn, step_conn, with_ends, lined, admitted_lines, oldest_in, step}
 use Rattle.ds_model.proofs.Places.{at_still, some_is}
 use Rattle.ds_delivery.specs.Checked.{IfRuleFails, thing, IsAt, IsOpen, FindsRoom, SendChecked, IsFramed, FrameChecked, ArrivalChecked, BoxChecked, TakeChecked, EachChecked}
@@ -345,7 +345,7 @@ module _ (s : Scheme) (plan : Plan) (w : World) where
       asks : Conn → ConnAsk
       asks conn = accept s (host_plan plan (conn_plan plan k).host) conn (arrived w (conn_plan plan k).source conn)
 
-      free : (hand : List Message) (passed : Option Message) → (hand ≢ []) ⊎ (passed ≢ None) → accept_free s (host_plan plan (conn_plan plan k).host) y (arrived w (conn_plan plan k).source y) hand passed y.failed ≡ ConnWaits
+      free : (hand : List Message) (passed : Option Passed) → (hand ≢ []) ⊎ (passed ≢ None) → accept_free s (host_plan plan (conn_plan plan k).host) y (arrived w (conn_plan plan k).source y) hand passed y.failed ≡ ConnWaits
       free [] None (inl n) = absurd (n refl)
       free [] None (inr n) = absurd (n refl)
       free [] (Some m) n = refl

@@ -261,8 +261,8 @@ nothing_forged w bytes stays outs = record {
   stores = λ g y d there m about good by.
       let a : (x : Host) × (slice_get w.hosts 0 ≡ Some x) × (x.desk.issued ≡ to_b ∷ []) = map_at (λ x. x.desk.issued) w.hosts 0 (to_b ∷ []) (ap (λ o. slice_get o 0) stays.issued) in
       (0, a.0, refl, a.1, subst (λ z. Contains z d) (sym a.2) (subst (λ z. Contains (to_b ∷ []) z) (kept_is g y.desk.store d (sym (ap (λ o. slice_get o g) stays.stores) ∙ at_map (λ u. u.desk.store) w.hosts g y there) m) (in_head to_b [])));
-  certs = λ k y lane there source read by. absurd (not_x (subst (λ z. IsTrusted both net z.exporter) (sym (link_peer w bytes stays outs k y lane there source read)) by));
-  frames = λ k y lane j number messages there source read frame h l high same. high_key h l high (ap (λ z. z.key) (link_peer w bytes stays outs k y lane there source read) ∙ same);
+  certs = λ k y lane there source read taken by. absurd (not_x (subst (λ z. IsTrusted both net z.exporter) (sym (link_peer w bytes stays outs k y lane there source read)) by));
+  frames = λ k y lane j number messages there source read frame taken h l high same. high_key h l high (ap (λ z. z.key) (link_peer w bytes stays outs k y lane there source read) ∙ same);
 }
   where
     not_x : IsTrusted both net x_key → ⊥
