@@ -5,7 +5,7 @@ use Rattle.ds_script.specs.declared.op.Op.{Op}
 use Rattle.ds_script.specs.declared.op.Op.TheVariants as ops
 use Rattle.ds_script.specs.declared.note.Note.{Note}
 use Rattle.ds_script.specs.declared.note.Note.TheVariants as notes
-use Rattle.ds_model.specs.Plan.{HostPlan, BoxPlan, Plan, no_signing}
+use Rattle.ds_model.specs.Plan.{HostSetup, BoxPlan, Plan, no_signing}
 use Rattle.ds_model.specs.World.{Process, World}
 use Rattle.ds_model.specs.Step.{Event, Step, run}
 use Rattle.ds_model.specs.Views.{proc_at}
@@ -18,8 +18,8 @@ abbrev pub public_box : BoxPlan
 public_box = record { slot = 1; owner = 1; label = []; room = 4 }
 
 -- the host
-abbrev pub pair_host : HostPlan
-pair_host = record { key = only_key; silent = false; signing = no_signing; keys = only_key ∷ []; procs = 2; boxes = public_box ∷ []; lanes = []; inlets = [] }
+abbrev pub pair_host : HostSetup
+pair_host = record { key = only_key; silent = false; signing = no_signing; procs = 2; boxes = public_box ∷ []; lanes = []; inlets = [] }
 
 -- the plan of that host alone
 abbrev pub pair : Plan
