@@ -11,6 +11,7 @@ use Rattle.ds_model.specs.Step.{Event, Step, run}
 use Rattle.ds_model.specs.Views.{proc_at}
 use Rattle.ds_model.specs.Examples.OneHost.{empty_scheme, only_key, a_secret, a_mail}
 use Rattle.ds_noninterference.specs.Observations.{Release, ToBox, Low, marks}
+use Rattle.ds_noninterference.specs.Premises.{IsScheme}
 use Rattle.ds_noninterference.specs.Law.{Premises}
 
 -- a host with two processes and a mailbox of the second, without a label
@@ -66,7 +67,7 @@ second_events = Step 0 0 ∷ Step 0 0 ∷ Step 0 0 ∷ Step 0 0 ∷ Step 0 1 ∷
 
 -- they meet the premises
 abbrev pub PremisesHold : Type 0
-PremisesHold = Premises empty_scheme a_secret (0 ∷ []) pair (pair_world first_script) (pair_world second_script) first_events second_events
+PremisesHold = IsScheme empty_scheme pair × Premises empty_scheme a_secret (0 ∷ []) pair (pair_world first_script) (pair_world second_script) first_events second_events
 
 -- the marks of both runs: the release, and the steps of the second process
 abbrev pub IsMarked : Type 0

@@ -24,6 +24,7 @@ use Rattle.ds_model.specs.Views.{proc_at}
 use Rattle.ds_model.specs.Examples.OneHost.{empty_scheme, new_conn}
 use Rattle.ds_model.specs.Examples.TwoHosts.{an_address}
 use Rattle.ds_noninterference.specs.Observations.{Mark, Release, ToLane, Low, marks}
+use Rattle.ds_noninterference.specs.Premises.{IsScheme}
 use Rattle.ds_noninterference.specs.Law.{Premises}
 
 -- the keys of the two trusted hosts and of the other one
@@ -175,7 +176,7 @@ abbrev pub no_events : List Event
 no_events = (Step 0 0 ∷ Step 0 0 ∷ Step 0 0 ∷ Step 0 0 ∷ Step 0 0 ∷ Arrive 0 1 ∷ []) ++ (attack ++ (Frame 0 0 ∷ Frame 0 0 ∷ Accept 0 ∷ letting_out))
 
 abbrev pub IsNetMet : Type 0
-IsNetMet = Premises net_scheme secret both net (net_world yes_script) (net_world no_script) yes_events no_events
+IsNetMet = IsScheme net_scheme net × Premises net_scheme secret both net (net_world yes_script) (net_world no_script) yes_events no_events
 
 -- the release, whole
 abbrev pub let_out : Message
