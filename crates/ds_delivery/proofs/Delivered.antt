@@ -1,16 +1,15 @@
 -- Delivered only where the rules hold.
-use Rattle.std.proofs.Common.{◌≡◌, ℕ, zero, suc, Bool, true, List, [], ◌∷◌, ◌++◌, Option, Some, None, slice_get, option_map, take, map, Contains, refl, sym, ◌∙◌, ap, subst, ◌⊎◌, inl, inr, arith, append_assoc}
+use Rattle.std.proofs.Common.{◌≡◌, ℕ, zero, suc, Bool, true, List, [], ◌∷◌, ◌++◌, Option, Some, None, slice_get, take, map, length, Contains, refl, sym, ◌∙◌, ap, subst, ◌⊎◌, inl, inr, arith, append_assoc}
 use Rattle.ds_cert.specs.declared.lane.LaneCert.{LaneCert}
 use Rattle.ds_msg.specs.declared.message.Message.{Message}
 use Rattle.ds_model.specs.Scheme.{Scheme, Item, Hello, Framed}
-use Rattle.ds_model.specs.Plan.{HostPlan, LanePlan, Plan, Source, OfLane, host_plan, conn_plan, lane_plan}
+use Rattle.ds_model.specs.Plan.{HostPlan, LanePlan, Plan, Source, OfLane, IsLane, host_plan, conn_plan, lane_plan}
 use Rattle.ds_model.specs.World.{Waiting, Worker, Conn, Host, World, Passed}
 use Rattle.ds_model.specs.Setup.{IsSetup}
-use Rattle.ds_model.specs.WorkerStep.{LaneAsk, WorkerWaits, Lifts, AsksRecheck, lane_ask, rechecked, still_good, lifted_after_reply, checked_after_reply, with_frame}
 use Rattle.ds_model.specs.ConnectionStep.{hello_of, passed_of}
-use Rattle.ds_model.specs.Step.{Event, Frame, stream_from, worker_at, lane_stream, front_of, perform_lane, step_lane, arrived, resolve, step, run}
+use Rattle.ds_model.specs.Step.{Event, stream_from, worker_at, lane_stream, arrived, run}
 use Rattle.ds_model.specs.Lawful.{Past, PutsFrom, JudgedFrom, TakenFrom, FramedOn, SentBy, Wrote, OwnFrom, RulesFrom}
-use Rattle.ds_model.proofs.Places.{at_here, none_some, some_is}
+use Rattle.ds_model.proofs.Places.{none_some, some_is}
 use Rattle.ds_model.proofs.Sends.{sent_lawfully}
 use Rattle.ds_delivery.specs.Premises.{Written, stream_with, items_with, CanBeWritten, IsReadable, Spells}
 use Rattle.ds_delivery.specs.Delivered.{DeliveredLawfully}
@@ -19,9 +18,7 @@ use Rattle.ds_model.specs.ExporterRules.{sender_rule}
 use Rattle.ds_model.specs.ProcessStep.{box_of, mail_of}
 use Rattle.ds_model.specs.ConnectionStep.{ConnAsk, PutsPassed, deliver}
 use Rattle.ds_delivery.proofs.Conns.{HandFacts, DeliverFacts, deliver_facts}
-use Rattle.ds_delivery.proofs.Kept.{IsWhole, QueuedBefore, WasFramed, KeptWorker, KeptHost, framed_now, whole_now}
-use Rattle.ds_delivery.proofs.Asks.{LaneFacts, lane_facts}
-use Rattle.ds_delivery.proofs.Afters.{changed, means_after}
+use Rattle.ds_delivery.proofs.Kept.{IsWhole, QueuedBefore, WasFramed, KeptWorker}
 use Rattle.ds_delivery.proofs.KeptConns.{IsPassed}
 use Rattle.ds_delivery.proofs.Runs.{Kept, all_kept}
 
@@ -59,15 +56,10 @@ item_framed lane frames number messages c = go (in_cases (Hello lane.cert) (map 
     go (inr t) = let m : (f : Written) × Contains frames f × (Framed f.number f.messages ≡ Framed number messages) = in_map (λ f. Framed f.number f.messages) frames (Framed number messages) t in
         (m.0, m.1, framed_number m.0.number number m.0.messages messages m.2, framed_messages m.0.number number m.0.messages messages m.2)
 
--- what was appended
-
-nothing_more : (xs ys : List ℕ) → xs ≡ xs ++ ys → ys ≡ []
-nothing_more [] ys e = sym e
-nothing_more (x ∷ xs) ys e = nothing_more xs ys (let t : xs ≡ xs ++ ys = cc in t)
-
-same_more : (xs ys zs : List ℕ) → xs ++ ys ≡ xs ++ zs → ys ≡ zs
-same_more [] ys zs e = e
-same_more (x ∷ xs) ys zs e = same_more xs ys zs (let t : xs ++ ys ≡ xs ++ zs = cc in t)
+-- all of a list
+take_all : (xs : List ℕ) → take (length xs) xs ≡ xs
+take_all [] = refl
+take_all (x ∷ xs) = ap (λ ys. x ∷ ys) (take_all xs)
 
 module _ (s : Scheme) (has_spelling : Message → Bool) (plan : Plan) (start : World) (is : IsReadable s has_spelling plan) (setup : IsSetup s plan start) where
   kept : (done : List Event) → Kept s has_spelling plan start is done (run s plan start done)
@@ -92,51 +84,6 @@ module _ (s : Scheme) (has_spelling : Message → Bool) (plan : Plan) (start : W
     where
       spelled : (m : Message) → QueuedBefore s plan start h l m b → has_spelling m ≡ true
       spelled m (p, (b', e', after', split', (queued, sent))) = spells b' (e' ∷ after' ++ e ∷ after) (split ∙ (ap (λ xs. xs ++ e ∷ after) split' ∙ append_assoc b' (e' ∷ after') (e ∷ after))) h queued.host p queued.proc m queued.stands queued.acts queued.hand
-
-  -- a frame whose bytes a lane's Frame appended, and that was read, was framed by that event
-
-  module _ (events : List Event) (spells : Spells s has_spelling plan start events) (h l number : ℕ) (messages : List Message) (b : List Event) (ev : Event) (later : List Event) (split : events ≡ b ++ ev ∷ later)
-      (here : HostPlan) (bytes : List ℕ) (j : ℕ) (item : slice_get (s.items here.key here.inlets bytes) j ≡ Some (Framed number messages)) (now : resolve plan (run s plan start b) ev ≡ Frame h l) where
-    abbrev lane : LanePlan
-    lane = lane_plan (host_plan plan h) l
-
-    abbrev frame : List ℕ
-    frame = s.frame lane.signing number messages
-
-    none_written : (stream : List ℕ) → stream ≡ stream ++ frame → FramedOn s plan start h l number messages b ev
-    none_written stream e = absurd (is.some lane (record { number = number; messages = messages }) (nothing_more stream frame e))
-
-    module _ (x : Host) (there : slice_get (run s plan start b).hosts h ≡ Some x) (e : Worker) (works : slice_get x.workers l ≡ Some e) where
-      by_good : (good : List Waiting) → still_good (rechecked s x.desk e.hand) e.hand ≡ good → (e.hand ≡ [] → ⊥) → (with_frame s lane e good).stream ≡ e.stream ++ frame → FramedOn s plan start h l number messages b ev
-      by_good [] passed busy grew = none_written e.stream grew
-      by_good (m ∷ rest) passed busy grew =
-          let framed = framed_now s plan start b ev h x there ((kept b).hosts h x there) l now e works busy m rest passed in
-          let whole = whole_now s plan start b ev h x there ((kept b).hosts h x there) l now e works busy m rest passed in
-          let f : Written = record { number = e.leaf; messages = map (λ w. w.message) (m ∷ rest) } in
-          let same : (number ≡ e.leaf) × (messages ≡ map (λ w. w.message) (m ∷ rest)) = is.one lane f (wrote_can h l f events spells whole (b, ev, later, split, framed)) here bytes j number messages item
-              (sym (same_more e.stream (s.frame lane.signing e.leaf (map (λ w. w.message) (m ∷ rest))) frame grew)) in
-          subst (λ n. FramedOn s plan start h l n messages b ev) (sym same.0) (subst (λ ms. FramedOn s plan start h l e.leaf ms b ev) (sym same.1) framed)
-
-      by_ask : (a : LaneAsk) → LaneFacts s lane e a → stream_from (slice_get (perform_lane s (host_plan plan h) x l a).workers l) ≡ e.stream ++ frame → FramedOn s plan start h l number messages b ev
-      by_ask WorkerWaits f grew = none_written e.stream (sym (ap stream_from works) ∙ grew)
-      by_ask Lifts f grew = none_written e.stream (sym (ap stream_from (changed l (lifted_after_reply (front_of (slice_get x.queues l))) x.workers e works)) ∙ grew)
-      by_ask (AsksRecheck hand) f grew = by_good (still_good (rechecked s x.desk e.hand) e.hand) refl f.1
-          (ap (λ ms. (with_frame s lane e (still_good (rechecked s x.desk ms) e.hand)).stream) f.0
-          ∙ (sym (ap stream_from (changed l (checked_after_reply s lane (rechecked s x.desk hand)) x.workers e works)) ∙ grew))
-
-    by_worker : (x : Host) → slice_get (run s plan start b).hosts h ≡ Some x → (o : Option Worker) → slice_get x.workers l ≡ o → stream_from (slice_get (step_lane s (host_plan plan h) x l o).workers l) ≡ stream_from o ++ frame → FramedOn s plan start h l number messages b ev
-    by_worker x there None works grew = none_written [] (sym (ap stream_from works) ∙ grew)
-    by_worker x there (Some e) works grew = by_ask x there e works (lane_ask s lane e) (lane_facts s lane e) grew
-
-    by_host : (o : Option Host) → slice_get (run s plan start b).hosts h ≡ o → lane_stream (step s plan (run s plan start b) ev) h l ≡ stream_from (worker_at o l) ++ frame → FramedOn s plan start h l number messages b ev
-    by_host o there grew = at_host o there (sym (ap (λ (w : World). lane_stream w h l) (means_after s plan (run s plan start b) ev (Frame h l) now) ∙ ap (λ q. stream_from (worker_at q l)) (at_here h (λ x. step_lane s (host_plan plan h) x l (slice_get x.workers l)) (run s plan start b).hosts ∙ ap (option_map (λ x. step_lane s (host_plan plan h) x l (slice_get x.workers l))) there)) ∙ grew)
-      where
-        at_host : (o : Option Host) → slice_get (run s plan start b).hosts h ≡ o → stream_from (worker_at (option_map (λ x. step_lane s (host_plan plan h) x l (slice_get x.workers l)) o) l) ≡ stream_from (worker_at o l) ++ frame → FramedOn s plan start h l number messages b ev
-        at_host None there grew = none_written [] grew
-        at_host (Some x) there grew = by_worker x there (slice_get x.workers l) refl grew
-
-    pub wrote_framed : lane_stream (step s plan (run s plan start b) ev) h l ≡ lane_stream (run s plan start b) h l ++ frame → FramedOn s plan start h l number messages b ev
-    wrote_framed grew = by_host (slice_get (run s plan start b).hosts h) refl grew
 
   -- a lane's stream, cut anywhere, or where there is no such lane nothing
   record Streams (events : List Event) (h l n : ℕ) (bytes : List ℕ) : Type 0 where
@@ -181,6 +128,17 @@ module _ (s : Scheme) (has_spelling : Message → Bool) (plan : Plan) (start : W
           let f : (g : Written) × Contains st.frames g × (g.number ≡ number) × (g.messages ≡ messages) = item_framed (lane_plan (host_plan plan h) l) st.frames number messages (read taken.conn.taken (Framed number messages) taken.item) in
           framed_sent h l number messages m events (subst (λ ms. WasFramed s plan start h l number ms events) f.3 (subst (λ n. WasFramed s plan start h l n f.0.messages events) f.2 (st.wrote f.0 f.1))) c
 
+  -- a frame that a lane wrote was sent so
+  written_sent : (events : List Event) → Spells s has_spelling plan start events → (h l : ℕ) → IsLane plan h l → (r number : ℕ) (messages : List Message) (m : Message) → Wrote s plan start h l r number messages events → Contains messages m → SentBy s plan start h l number messages m events
+  written_sent events spells h l real r number messages m (place, item) c =
+      let stream : List ℕ = lane_stream (run s plan start events) h l in
+      let st : Streams events h l (length stream) (take (length stream) stream) = worker_streams events h l (length stream) (worker_at (slice_get (run s plan start events).hosts h) l) (host_worker events h l (slice_get (run s plan start events).hosts h) refl) in
+      let here : HostPlan = host_plan plan r in
+      let read : slice_get (s.items here.key here.inlets (take st.many (stream_with s (lane_plan (host_plan plan h) l) st.frames))) place ≡ Some (Framed number messages) = subst (λ bytes. slice_get (s.items here.key here.inlets bytes) place ≡ Some (Framed number messages)) (sym (take_all stream) ∙ st.stream) item in
+      let f : (g : Written) × Contains st.frames g × (g.number ≡ number) × (g.messages ≡ messages) = item_framed (lane_plan (host_plan plan h) l) st.frames number messages
+          (is.own h l real st.frames (λ g in_frames. wrote_can h l g events spells (st.whole g in_frames) (st.wrote g in_frames)) here st.many place (Framed number messages) read) in
+      framed_sent h l number messages m events (subst (λ ms. WasFramed s plan start h l number ms events) f.3 (subst (λ n. WasFramed s plan start h l n f.0.messages events) f.2 (st.wrote f.0 f.1))) c
+
   rules_from : (before : List Event) (e : Event) → Spells s has_spelling plan start before → (k b : ℕ) (lane : LaneCert) (p : Passed) → PutsFrom s plan start k b lane p before e → RulesFrom s plan start k b lane p before
   rules_from before e spells k b lane p puts = record {
     m = old.m;
@@ -191,7 +149,7 @@ module _ (s : Scheme) (has_spelling : Message → Bool) (plan : Plan) (start : W
     among = old.among;
     place = found (deliver s (host_plan plan (conn_plan plan k).host) puts.conn (arrived (run s plan start before) (conn_plan plan k).source puts.conn)) (deliver_facts s (host_plan plan (conn_plan plan k).host) puts.conn (arrived (run s plan start before) (conn_plan plan k).source puts.conn)) puts.asks;
     judged = subst (λ c. Past before (λ b e. JudgedFrom s plan start k c old.m b e × Past b (λ b' e'. TakenFrom s plan start k c old.number old.messages b' e' × OwnFrom s plan start k c old.number old.messages old.m b'))) same (judged old.judged);
-    link = λ h l source real mine wrote. linked old.judged h l wrote;
+    link = λ h l source real mine wrote. written_sent before spells h l real (conn_plan plan k).host old.number old.messages old.m wrote old.among;
   }
     where
       old : IsPassed s has_spelling plan start is before k (arrived (run s plan start before) (conn_plan plan k).source puts.conn) p
@@ -201,13 +159,6 @@ module _ (s : Scheme) (has_spelling : Message → Bool) (plan : Plan) (start : W
       found a f a_is =
           let g : HandFacts s (host_plan plan (conn_plan plan k).host) puts.conn (arrived (run s plan start before) (conn_plan plan k).source puts.conn) b p.mail puts.next = subst (DeliverFacts s (host_plan plan (conn_plan plan k).host) puts.conn (arrived (run s plan start before) (conn_plan plan k).source puts.conn)) a_is f in
           ap (λ (n : Passed). box_of (host_plan plan (conn_plan plan k).host) n.slot) (sym old.says ∙ some_is p g.left (sym puts.passed ∙ g.passed)) ∙ g.box
-
-      linked : Past before (λ b e. JudgedFrom s plan start k old.lane old.m b e × Past b (λ b' e'. TakenFrom s plan start k old.lane old.number old.messages b' e')) →
-          (h l : ℕ) → Past before (Wrote s plan start h l old.number old.messages) → SentBy s plan start h l old.number old.messages old.m before
-      linked (b, e, after, split, (j, (b', e', after', split', taken))) h l (c, ev, later, wrote_in, wrote) =
-          framed_sent h l old.number old.messages old.m before
-          (c, ev, later, wrote_in, wrote_framed before spells h l old.number old.messages c ev later wrote_in (host_plan plan (conn_plan plan k).host) (arrived (run s plan start b') (conn_plan plan k).source taken.conn) taken.conn.taken taken.item wrote.event wrote.appends)
-          old.among
 
       same : old.lane ≡ lane
       same = some_is old.lane lane (sym old.read ∙ puts.hello)

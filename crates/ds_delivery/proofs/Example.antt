@@ -98,41 +98,12 @@ the_lane (suc zero) zero is = refl
 the_lane (suc zero) (suc l) is = absurd (omega arith)
 the_lane (suc (suc h)) l is = absurd (omega arith)
 
--- frames that are read have letters alone
-read_letters : (bytes : List ℕ) (j number : ℕ) (messages : List Message) → slice_get (letter_frames bytes) j ≡ Some (Framed number messages) → messages ≡ replicate (length messages) letter
-read_letters [] j number messages e = absurd (none_some _ e)
-read_letters (n ∷ []) j number messages e = absurd (none_some _ e)
-read_letters (n ∷ count ∷ bytes) zero number messages e = subst (λ ms. ms ≡ replicate (length ms) letter) (let same : Framed n (replicate count letter) ≡ Framed number messages = some_is _ _ e in cc) (ap (λ c. replicate c letter) (sym (long count)))
-  where
-    long : (c : ℕ) → length (replicate c letter) ≡ c
-    long zero = refl
-    long (suc c) = ap suc (long c)
-read_letters (n ∷ count ∷ bytes) (suc j) number messages e = read_letters bytes j number messages e
-
-read_items : (bytes : List ℕ) (j number : ℕ) (messages : List Message) → slice_get (letter_items bytes) j ≡ Some (Framed number messages) → messages ≡ replicate (length messages) letter
-read_items [] j number messages e = absurd (none_some _ e)
-read_items (b ∷ bytes) zero number messages e = absurd (let same : Hello letter_lane ≡ Framed number messages = some_is _ _ e in grind arith)
-read_items (b ∷ bytes) (suc j) number messages e = read_letters bytes j number messages e
-
--- a number and a count tell a frame
-one_frame : (lane : LanePlan) (f : Written) → CanBeWritten letter_scheme is_letter lane f → (bytes : List ℕ) (j number : ℕ) (messages : List Message) → slice_get (letter_items bytes) j ≡ Some (Framed number messages) →
-    letter_scheme.frame lane.signing number messages ≡ letter_scheme.frame lane.signing f.number f.messages → (number ≡ f.number) × (messages ≡ f.messages)
-one_frame lane f can bytes j number messages e same = (first same, read_items bytes j number messages e ∙ (ap (λ n. replicate n letter) (second same) ∙ sym (all_letters f.messages can.each)))
-  where
-    first : {a b c d : ℕ} → a ∷ b ∷ [] ≡ c ∷ d ∷ [] → a ≡ c
-    first p = cc
-
-    second : {a b c d : ℕ} → a ∷ b ∷ [] ≡ c ∷ d ∷ [] → b ≡ d
-    second p = cc
-
 scheme : IsReadable letter_scheme is_letter two_ways
 scheme = record {
   stays = λ here lane bytes more e. stays lane bytes more e;
   good = λ here lane bytes e. refl;
   signed = λ here lane bytes j number messages e f. refl;
   own = λ h l is frames can here n j item e. stream_only (lane_plan (host_plan two_ways h) l) (the_lane h l is) frames can n j item e;
-  some = λ lane f e. absurd (grind arith);
-  one = λ lane f can here bytes j number messages e same. one_frame lane f can bytes j number messages e same;
 }
   where
     stays : (lane : LaneCert) (bytes more : List ℕ) → hello_of (slice_get (letter_items bytes) 0) ≡ Some lane → hello_of (slice_get (letter_items (bytes ++ more)) 0) ≡ Some lane

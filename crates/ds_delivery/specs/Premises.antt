@@ -44,12 +44,6 @@ pub record IsReadable (s : Scheme) (has_spelling : Message → Bool) (plan : Pla
   -- of a stream that is the hello of a lane of the plan and frames that it can write, cut anywhere, nothing else is read
   pub own : (h l : ℕ) → IsLane plan h l → (frames : List Written) → ((f : Written) → Contains frames f → CanBeWritten s has_spelling (lane_plan (host_plan plan h) l) f) →
       (here : HostPlan) (n j : ℕ) (item : Item) → slice_get (s.items here.key here.inlets (take n (stream_with s (lane_plan (host_plan plan h) l) frames))) j ≡ Some item → Contains (items_with (lane_plan (host_plan plan h) l) frames) item
-  -- a frame has bytes
-  pub some : (lane : LanePlan) (f : Written) → s.frame lane.signing f.number f.messages ≢ []
-  -- and they tell it: what was read, and has the bytes of a frame that the lane can write, is that frame
-  pub one : (lane : LanePlan) (f : Written) → CanBeWritten s has_spelling lane f → (here : HostPlan) (bytes : List ℕ) (j number : ℕ) (messages : List Message) →
-      slice_get (s.items here.key here.inlets bytes) j ≡ Some (Framed number messages) → s.frame lane.signing number messages ≡ s.frame lane.signing f.number f.messages →
-      (number ≡ f.number) × (messages ≡ f.messages)
 
 -- WHAT IS SENT: at each world of the run, each message that a process has in hand has a spelling
 abbrev pub Spells : Scheme → (Message → Bool) → Plan → World → List Event → Type 0

@@ -191,10 +191,10 @@ module _ (s : Scheme) (plan : Plan) (start : World) where
   abbrev pub OwnFrom : (conn : ℕ) → LaneCert → (number : ℕ) → List Message → Message → List Event → Type 0
   OwnFrom k lane number messages m events = (h l : ℕ) → (conn_plan plan k).source ≡ OfLane h l → (lane ≡ (lane_plan (host_plan plan h) l).cert) × SentBy h l number messages m events
 
-  -- the event is a Frame of the lane that wrote this frame: its bytes were appended to the lane's stream
-  pub record Wrote (h l number : ℕ) (messages : List Message) (before : List Event) (e : Event) : Type 0 where
-    pub event : Is before e (Frame h l)
-    pub appends : lane_stream (next before e) h l ≡ lane_stream (after before) h l ++ s.frame (lane_plan (host_plan plan h) l).signing number messages
+  -- the lane wrote the frame: it stands among what host r reads of the lane's own stream
+  abbrev pub Wrote : (host lane r number : ℕ) → List Message → List Event → Type 0
+  Wrote h l r number messages before =
+      (place : ℕ) × (slice_get (s.items (host_plan plan r).key (host_plan plan r).inlets (lane_stream (after before) h l)) place ≡ Some (Framed number messages))
 
   -- what holds where what a connection passed is put: it is what is left of this message
   pub record RulesFrom (k b : ℕ) (lane : LaneCert) (p : Passed) (before : List Event) : Type 0 where
@@ -210,7 +210,7 @@ module _ (s : Scheme) (plan : Plan) (start : World) where
     pub judged : Past before (λ b e. JudgedFrom k lane m b e × Past b (λ b' e'. TakenFrom k lane number messages b' e' × OwnFrom k lane number messages m b'))
     -- a link on which a lane's own certificate was read, and a frame that the lane wrote
     pub link : (h l : ℕ) → (conn_plan plan k).source ≡ Link → IsLane plan h l → lane ≡ (lane_plan (host_plan plan h) l).cert →
-        Past before (Wrote h l number messages) → SentBy h l number messages m before
+        Wrote h l (conn_plan plan k).host number messages before → SentBy h l number messages m before
 
   -- of each event of the run that puts a message into a mailbox
 
