@@ -1,12 +1,12 @@
--- What "delivered only where the rules hold" asks: of the scheme, of setup, and of what processes send.
+-- What "delivered only where the rules hold" asks: of the scheme, and of what processes send. Of setup it asks `IsSetup`.
 use Rattle.std.specs.Prelude.{◌≡◌, ◌≢◌, ◌≤◌, ℕ, Bool, true, List, [], ◌∷◌, ◌++◌, Some, None, slice_get, length, map, flat_map, take, Contains}
 use Rattle.ds_cert.specs.declared.lane.LaneCert.{LaneCert}
 use Rattle.ds_msg.specs.declared.message.Message.{Message}
 use Rattle.ds_model.specs.Scheme.{Scheme, Item, Hello, Framed}
-use Rattle.ds_model.specs.Plan.{HostPlan, LanePlan, Plan, OfLane, IsLane, host_plan, conn_plan, lane_plan}
+use Rattle.ds_model.specs.Plan.{HostPlan, LanePlan, Plan, IsLane, host_plan, lane_plan}
 use Rattle.ds_model.specs.Lane.{frame_limit}
 use Rattle.ds_model.specs.ConnectionStep.{peer}
-use Rattle.ds_model.specs.World.{Process, Queue, Worker, Conn, Host, World}
+use Rattle.ds_model.specs.World.{Process, Host, World}
 use Rattle.ds_model.specs.Step.{Event, run}
 
 -- THE STREAM OF A LANE
@@ -26,7 +26,7 @@ items_with lane frames = Hello lane.cert ∷ map (λ f. Framed f.number f.messag
 
 -- a frame that a lane can write: its number is a leaf of the lane's key, and it has one message to 16, each with a spelling
 pub record CanBeWritten (s : Scheme) (has_spelling : Message → Bool) (lane : LanePlan) (f : Written) : Type 0 where
-  pub leaf : s.has_leaf lane.signing f.number ≡ true
+  pub leaf : s.has_lane_leaf lane.signing f.number ≡ true
   pub some : f.messages ≢ []
   pub most : length f.messages ≤ frame_limit
   pub each : (m : Message) → Contains f.messages m → has_spelling m ≡ true
@@ -44,15 +44,6 @@ pub record IsReadable (s : Scheme) (has_spelling : Message → Bool) (plan : Pla
   -- of a stream that is the hello of a lane of the plan and frames that it can write, cut anywhere, nothing else is read
   pub own : (h l : ℕ) → IsLane plan h l → (frames : List Written) → ((f : Written) → Contains frames f → CanBeWritten s has_spelling (lane_plan (host_plan plan h) l) f) →
       (here : HostPlan) (n j : ℕ) (item : Item) → slice_get (s.items here.key here.inlets (take n (stream_with s (lane_plan (host_plan plan h) l) frames))) j ≡ Some item → Contains (items_with (lane_plan (host_plan plan h) l) frames) item
-
--- SETUP: the connection of a lane is that of a lane of the plan; nothing is judged, waits, is in hand or is passed; and each
--- lane's stream is its hello
-pub record AtSetup (s : Scheme) (plan : Plan) (w : World) : Type 0 where
-  pub conn_plans : (k h l : ℕ) → (conn_plan plan k).source ≡ OfLane h l → IsLane plan h l
-  pub procs : (h : ℕ) (x : Host) (p : ℕ) (y : Process) → slice_get w.hosts h ≡ Some x → slice_get x.procs p ≡ Some y → y.hand ≡ None
-  pub queues : (h : ℕ) (x : Host) (l : ℕ) (q : Queue) → slice_get w.hosts h ≡ Some x → slice_get x.queues l ≡ Some q → q ≡ []
-  pub workers : (h : ℕ) (x : Host) (l : ℕ) (e : Worker) → slice_get w.hosts h ≡ Some x → slice_get x.workers l ≡ Some e → (e.hand ≡ []) × (e.stream ≡ s.hello (lane_plan (host_plan plan h) l).cert)
-  pub conns : (k : ℕ) (y : Conn) → slice_get w.conns k ≡ Some y → (y.hand ≡ []) × (y.passed ≡ None)
 
 -- WHAT IS SENT: at each world of the run, each message that a process has in hand has a spelling
 abbrev pub Spells : Scheme → (Message → Bool) → Plan → World → List Event → Type 0

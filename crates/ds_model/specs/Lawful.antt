@@ -17,7 +17,7 @@ use Rattle.ds_model.specs.Inlet.{Inlet}
 use Rattle.ds_model.specs.World.{Process, Mail, Mailbox, Queue, Waiting, Worker, Passed, Conn, Host, World}
 use Rattle.ds_model.specs.ProcessStep.{Put, ask, message_of, mail_of, box_of, label_of, lane_of}
 use Rattle.ds_model.specs.ConnectionStep.{PutsPassed, peer, inlet_of, passed_of, deliver}
-use Rattle.ds_model.specs.Step.{Event, Step, Frame, Accept, Deliver, attached, arrived, resolve, step, run}
+use Rattle.ds_model.specs.Step.{Event, Step, Frame, Accept, Deliver, attached, arrived, lane_stream, resolve, step, run}
 
 -- some event of a list, with those before it
 abbrev pub Past : List Event → (List Event → Event → Type 0) → Type 0
@@ -191,9 +191,10 @@ module _ (s : Scheme) (plan : Plan) (start : World) where
   abbrev pub OwnFrom : (conn : ℕ) → LaneCert → (number : ℕ) → List Message → Message → List Event → Type 0
   OwnFrom k lane number messages m events = (h l : ℕ) → (conn_plan plan k).source ≡ OfLane h l → (lane ≡ (lane_plan (host_plan plan h) l).cert) × SentBy h l number messages m events
 
-  -- the frame is one that the lane wrote
-  abbrev pub WroteFrame : (host lane number : ℕ) → List Message → List Event → Type 0
-  WroteFrame h l number messages events = Past events (λ b e. FramedOn h l number messages b e)
+  -- the lane wrote the frame: it stands among what host r reads of the lane's own stream
+  abbrev pub Wrote : (host lane r number : ℕ) → List Message → List Event → Type 0
+  Wrote h l r number messages before =
+      (place : ℕ) × (slice_get (s.items (host_plan plan r).key (host_plan plan r).inlets (lane_stream (after before) h l)) place ≡ Some (Framed number messages))
 
   -- what holds where what a connection passed is put: it is what is left of this message
   pub record RulesFrom (k b : ℕ) (lane : LaneCert) (p : Passed) (before : List Event) : Type 0 where
@@ -207,8 +208,9 @@ module _ (s : Scheme) (plan : Plan) (start : World) where
     pub place : box_of (host_plan plan (conn_plan plan k).host) m.slot ≡ Some b
     -- judged, after the frame was taken, and on a lane's own connection that after it was written
     pub judged : Past before (λ b e. JudgedFrom k lane m b e × Past b (λ b' e'. TakenFrom k lane number messages b' e' × OwnFrom k lane number messages m b'))
-    -- a link on which a lane's own certificate and frame were read
-    pub link : (h l : ℕ) → (conn_plan plan k).source ≡ Link → IsLane plan h l → lane ≡ (lane_plan (host_plan plan h) l).cert → WroteFrame h l number messages before → SentBy h l number messages m before
+    -- a link on which a lane's own certificate was read, and a frame that the lane wrote
+    pub link : (h l : ℕ) → (conn_plan plan k).source ≡ Link → IsLane plan h l → lane ≡ (lane_plan (host_plan plan h) l).cert →
+        Wrote h l (conn_plan plan k).host number messages before → SentBy h l number messages m before
 
   -- of each event of the run that puts a message into a mailbox
 

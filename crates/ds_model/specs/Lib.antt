@@ -21,6 +21,7 @@ pub mod Desk
 -- WHO IS THERE: what setup fixes, and what changes
 pub mod Plan
 pub mod World
+pub mod Setup
 
 -- ACTORS: what each asks, and what it becomes
 pub mod ProcessStep

@@ -15,6 +15,10 @@ pub record SigningKey : Type 0 where
   pub seed : List ℕ
   pub identifier : List ℕ
 
+-- The key that signs a lane's frames. It is a type of its own: today it has the parts of any key that signs.
+abbrev pub LaneKey : Type 0
+LaneKey = SigningKey
+
 -- an inlet's name: the exporter and the number of the lane whose frames it counts
 pub record InletName : Type 0 where
   pub exporter : PubKey
@@ -47,11 +51,12 @@ pub record Scheme : Type 0 where
   pub spelling : Delegation → List ℕ
   -- the delegation or address certificate that these bytes spell
   pub read_cert : List ℕ → Option Cert
-  -- whether the key has this leaf
+  -- whether the key has this leaf, and whether a lane's key has
   pub has_leaf : SigningKey → (leaf : ℕ) → Bool
+  pub has_lane_leaf : LaneKey → (leaf : ℕ) → Bool
   -- the spelled hello of a lane, and a spelled frame with the signature at the leaf that is its number
   pub hello : LaneCert → List ℕ
-  pub frame : SigningKey → (leaf : ℕ) → List Message → List ℕ
+  pub frame : LaneKey → (leaf : ℕ) → List Message → List ℕ
   -- what a host with this key and these inlets reads of a stream, up to the first fault; and the fault, where the rest can't be read on
   pub items : PubKey → List InletName → List ℕ → List Item
   pub ending : PubKey → List InletName → List ℕ → Option Failure

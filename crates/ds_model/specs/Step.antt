@@ -14,7 +14,7 @@ use Rattle.ds_msg.specs.declared.message.Message.{Message}
 use Rattle.ds_label.specs.declared.rule.Rule.{Rule}
 use Rattle.ds_model.specs.World.{Process, Mail, Mailbox, Queue, Waiting, Worker, LaneLine, Conn, Host, World}
 use Rattle.ds_model.specs.ProcessStep.{Ask, Waits, Internal, Put, Admit, TakeFrom, PublicAct, AsksJudgement, ask, lane_of, taken_after_reply, act_after_reply, judged_after_reply}
-use Rattle.ds_model.specs.WorkerStep.{LaneAsk, WorkerWaits, Lifts, AsksRecheck, lane_ask, lifted_after_reply, checked_after_reply, admitted_line, checked_lines}
+use Rattle.ds_model.specs.WorkerStep.{LaneAsk, WorkerWaits, Lifts, AsksRecheck, lane_ask, rechecked, lifted_after_reply, checked_after_reply, admitted_line, checked_lines}
 use Rattle.ds_model.specs.ConnectionStep.{ConnAsk, ConnWaits, ConnInternal, AsksInlet, AsksArrival, PutsPassed, arrive, accept, deliver, judge_delivery, delivery_after_reply}
 
 -- A step of a process; a frame, in two steps: the lift and the framing; so many more bytes arrive; the next item is
@@ -77,15 +77,18 @@ front_of None = []
 front_of (Some q) = front q
 
 -- what is printed where a worker's hand is judged
-abbrev pub checked_in : Scheme → Desk → Option Worker → List LaneLine
-checked_in s d None = []
-checked_in s d (Some e) = checked_lines s d e
+abbrev pub checked_in : List (Option Rule) → Option Worker → List LaneLine
+checked_in rules None = []
+checked_in rules (Some e) = checked_lines rules e
 
 -- the host after the worker of lane l asked
 abbrev pub perform_lane : Scheme → HostPlan → Host → ℕ → LaneAsk → Host
 perform_lane s plan x l WorkerWaits = x
 perform_lane s plan x l Lifts = record x { queues = at l lifted x.queues; workers = at l (lifted_after_reply (front_of (slice_get x.queues l))) x.workers }
-perform_lane s plan x l AsksRecheck = record x { workers = at l (checked_after_reply s (lane_plan plan l) x.desk) x.workers; logs = at l (lined (checked_in s x.desk (slice_get x.workers l))) x.logs }
+perform_lane s plan x l (AsksRecheck hand) = record x {
+  workers = at l (checked_after_reply s (lane_plan plan l) (rechecked s x.desk hand)) x.workers;
+  logs = at l (lined (checked_in (rechecked s x.desk hand) (slice_get x.workers l))) x.logs;
+}
 
 -- the host after a frame event of lane l, where there is one
 abbrev pub step_lane : Scheme → HostPlan → Host → ℕ → Option Worker → Host
@@ -124,10 +127,14 @@ abbrev pub worker_at : Option Host → ℕ → Option Worker
 worker_at None l = None
 worker_at (Some x) l = slice_get x.workers l
 
+-- what lane l of host h has written
+abbrev pub lane_stream : World → (host lane : ℕ) → List ℕ
+lane_stream w h l = stream_from (worker_at (slice_get w.hosts h) l)
+
 -- the stream of a connection with this source
 abbrev pub stream_of : World → Source → Conn → List ℕ
 stream_of w Link k = k.link
-stream_of w (OfLane h l) k = stream_from (worker_at (slice_get w.hosts h) l)
+stream_of w (OfLane h l) k = lane_stream w h l
 
 -- the part of it that arrived
 abbrev pub arrived : World → Source → Conn → List ℕ

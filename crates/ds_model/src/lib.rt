@@ -2,7 +2,7 @@
 //! alone. All that is stateful is held against it. Its definitions stand in `specs/`, a module a topic.
 #![tactic(auto)]
 
-ghost use Rattle.ds_model.specs.Schedule.{OneSchedule};
+ghost use Rattle.ds_model.specs.Schedule.{FindsStill, OneSchedule, SomeSchedule};
 ghost use Rattle.ds_model.specs.Access.{BoxesReplay, LanesReplay, InletsReplay, DesksReplay};
 ghost use Rattle.ds_model.specs.Replies.{ProcessesTold, WorkersTold, ConnectionsTold};
 ghost use Rattle.ds_model.specs.Lawful.{SentLawfully};
@@ -11,9 +11,15 @@ ghost use Rattle.ds_model.specs.Examples.Script.{IsScripted};
 ghost use Rattle.ds_model.specs.Examples.TwoHosts.{IsCarried};
 ghost use Rattle.ds_model.specs.Examples.Texts.{IsPrinting, IsTrying, IsPosted};
 
-/// A world has one canonical schedule, by whatever test finds the events that change nothing.
+/// An event changes nothing in a world exactly where it changes none of its actor's numbers.
+pub fn still_by_numbers()
+    ensures { FindsStill }
+{}
+
+/// A world has a canonical schedule, and one alone, by whatever test finds the events that change nothing.
 pub fn one_schedule()
-    ensures { OneSchedule }
+    ensures some { SomeSchedule }
+    ensures one { OneSchedule }
 {}
 
 /// Each event of a run touches at most one shared object of one host, by at most one entry, which may stand there. So each

@@ -1,4 +1,5 @@
--- What the law asks: of the scheme, of setup, of the trusted hosts, and of the outside.
+-- What the law asks: of the scheme, of a plan, of the trusted hosts, and of the outside. Of the worlds at the start it asks
+-- `IsSetup`.
 use Rattle.std.specs.Prelude.{◌≡◌, ◌≢◌, ◌<◌, ◌≤◌, ℕ, Bool, true, false, List, [], ◌++◌, Some, None, slice_get, ◌⊎◌, Contains, take}
 use Rattle.ds_label.specs.declared.category.PubKey.{PubKey}
 use Rattle.ds_label.specs.declared.category.Category.{Category}
@@ -8,7 +9,7 @@ use Rattle.ds_msg.specs.declared.message.Message.{Message}
 use Rattle.ds_model.specs.Scheme.{Scheme, Framed}
 use Rattle.ds_model.specs.Plan.{HostPlan, Plan, Link, OfLane, IsHost, IsLane, host_plan, conn_plan, lane_plan}
 use Rattle.ds_model.specs.ConnectionStep.{peer}
-use Rattle.ds_model.specs.World.{Process, Queue, Worker, Conn, Host, World}
+use Rattle.ds_model.specs.World.{Conn, Host, World}
 use Rattle.ds_model.specs.Step.{Event, arrived}
 use Rattle.ds_noninterference.specs.High.{is_in, high_lane, IsTrusted}
 use Rattle.ds_noninterference.specs.Observations.{Along}
@@ -35,13 +36,6 @@ pub record Fits (plan : Plan) : Type 0 where
   pub lanes : (h l g j : ℕ) → IsLane plan h l → IsLane plan g j →
       (lane_plan (host_plan plan h) l).cert.exporter ≡ (lane_plan (host_plan plan g) j).cert.exporter →
       (lane_plan (host_plan plan h) l).cert.lane ≡ (lane_plan (host_plan plan g) j).cert.lane → (h ≡ g) × (l ≡ j)
-
--- and how it leaves a world: nothing is judged, waits, is in hand or is passed, and each lane's stream is its hello
-pub record AtStart (s : Scheme) (plan : Plan) (w : World) : Type 0 where
-  pub procs : (h : ℕ) (x : Host) (p : ℕ) (y : Process) → slice_get w.hosts h ≡ Some x → slice_get x.procs p ≡ Some y → y.hand ≡ None
-  pub queues : (h : ℕ) (x : Host) (l : ℕ) (q : Queue) → slice_get w.hosts h ≡ Some x → slice_get x.queues l ≡ Some q → q ≡ []
-  pub workers : (h : ℕ) (x : Host) (l : ℕ) (e : Worker) → slice_get w.hosts h ≡ Some x → slice_get x.workers l ≡ Some e → (e.hand ≡ []) × (e.stream ≡ s.hello (lane_plan (host_plan plan h) l).cert)
-  pub conns : (k : ℕ) (y : Conn) → slice_get w.conns k ≡ Some y → y.passed ≡ None
 
 -- THE TRUSTED HOSTS
 

@@ -5,7 +5,7 @@
 ghost use Rattle.ds_noninterference.specs.Alike.{AlikeWorlds};
 ghost use Rattle.ds_noninterference.specs.Law.{AtEnd, SameProcesses, SameHosts, SameDesks, SameArrivals, SameSections};
 ghost use Rattle.ds_noninterference.specs.Example.{PremisesHold, IsMarked, IsPrinted};
-ghost use Rattle.ds_noninterference.specs.Owners.{OnlyOwnersRelease};
+ghost use Rattle.ds_noninterference.specs.Owners.{OnlyOwnersAct, OnlyOwnersRelease};
 ghost use Rattle.ds_noninterference.specs.Network.{IsNetMet, IsNetMarked, IsNetSeen};
 
 /// Two runs, from worlds that are equal but for what is high, whose marks agree, of trusted hosts that obey, with nothing
@@ -29,9 +29,11 @@ pub fn an_example()
     ensures printed { IsPrinted }
 {}
 
-/// At each event of each run from setup, a process that releases owns the category.
+/// At each event of each run from setup, a process that releases owns the category; and in any world one whose step changes
+/// its host's desk owns each secrecy category of its label.
 pub fn only_owners_release()
-    ensures { OnlyOwnersRelease }
+    ensures releases { OnlyOwnersRelease }
+    ensures acts { OnlyOwnersAct }
 {}
 
 /// Two runs over a network with an outsider, computed.

@@ -12,7 +12,7 @@ use Rattle.ds_script.specs.declared.note.Note.{Note}
 use Rattle.ds_script.specs.declared.note.Note.TheVariants as notes
 use Rattle.ds_model.specs.Lists.{at}
 use Rattle.ds_model.specs.Scheme.{Scheme, Hello, Framed}
-use Rattle.ds_model.specs.Plan.{HostPlan, BoxPlan, Plan, Link, no_signing}
+use Rattle.ds_model.specs.Plan.{HostSetup, BoxPlan, Plan, Link, no_signing}
 use Rattle.ds_model.specs.Mailbox.{PutIn, FoundFull}
 use Rattle.ds_model.specs.World.{Mail, Mailbox, Conn, ConnLine, FrameLine, StaleLine, PassLine, Host, World}
 use Rattle.ds_model.specs.Step.{Event, Step, Accept, Deliver, step, run}
@@ -32,6 +32,7 @@ empty_scheme = record {
   spelling = λ d. [];
   read_cert = λ bytes. None;
   has_leaf = λ signing leaf. false;
+  has_lane_leaf = λ signing leaf. false;
   hello = λ lane. [];
   frame = λ signing leaf messages. [];
   items = λ key inlets stream. [];
@@ -50,8 +51,8 @@ abbrev pub only_box : BoxPlan
 only_box = record { slot = 1; owner = 0; label = []; room = 1 }
 
 -- the host
-abbrev pub only_host : HostPlan
-only_host = record { key = only_key; silent = false; signing = no_signing; keys = only_key ∷ []; procs = 1; boxes = only_box ∷ []; lanes = []; inlets = [] }
+abbrev pub only_host : HostSetup
+only_host = record { key = only_key; silent = false; signing = no_signing; procs = 1; boxes = only_box ∷ []; lanes = []; inlets = [] }
 
 -- the plan of that host alone
 abbrev pub one_host : Plan
@@ -166,7 +167,7 @@ abbrev pub reading_scheme : Scheme
 reading_scheme = record empty_scheme { items = λ key inlets stream. Hello a_lane ∷ Framed 0 (a_message ∷ []) ∷ [] }
 
 -- the host with an inlet for that lane
-abbrev pub reading_host : HostPlan
+abbrev pub reading_host : HostSetup
 reading_host = record only_host { inlets = record { exporter = other_key; lane = 1 } ∷ [] }
 
 -- the plan of that host and two links to it

@@ -10,7 +10,7 @@ use Rattle.ds_script.specs.declared.op.Op.{Op}
 use Rattle.ds_script.specs.declared.op.Op.TheVariants as ops
 use Rattle.ds_script.specs.declared.note.Note.TheVariants as notes
 use Rattle.ds_model.specs.Scheme.{Scheme, Item, Hello, Framed}
-use Rattle.ds_model.specs.Plan.{HostPlan, Plan, OfLane, no_signing}
+use Rattle.ds_model.specs.Plan.{HostSetup, Plan, OfLane, no_signing}
 use Rattle.ds_model.specs.Desk.{Desk}
 use Rattle.ds_model.specs.World.{Process, LaneLine, QueuedLine, FramedLine, Conn, FrameLine, PassLine, Host, World}
 use Rattle.ds_model.specs.Step.{Event, Step, Frame, Arrive, Accept, Deliver, step, run}
@@ -46,6 +46,7 @@ abbrev pub toy_scheme : Scheme
 toy_scheme = record empty_scheme {
   find = λ addresses moment key. Some an_address;
   has_leaf = λ signing leaf. true;
+  has_lane_leaf = λ signing leaf. true;
   hello = λ lane. 255 ∷ [];
   frame = λ signing leaf messages. leaf ∷ [];
   items = λ key inlets stream. toy_items stream;
@@ -53,17 +54,13 @@ toy_scheme = record empty_scheme {
 
 -- the plan: the first host receives, the second one sends
 
--- the receiver's key and the sender's
-abbrev pub both_keys : List PubKey
-both_keys = only_key ∷ other_key ∷ []
-
 -- a process with a mailbox, and an inlet
-abbrev pub receiver : HostPlan
-receiver = record { key = only_key; silent = false; signing = no_signing; keys = both_keys; procs = 1; boxes = record { slot = 1; owner = 0; label = []; room = 4 } ∷ []; lanes = []; inlets = record { exporter = other_key; lane = 1 } ∷ [] }
+abbrev pub receiver : HostSetup
+receiver = record { key = only_key; silent = false; signing = no_signing; procs = 1; boxes = record { slot = 1; owner = 0; label = []; room = 4 } ∷ []; lanes = []; inlets = record { exporter = other_key; lane = 1 } ∷ [] }
 
 -- a process, and a lane
-abbrev pub sender : HostPlan
-sender = record { key = other_key; silent = false; signing = no_signing; keys = both_keys; procs = 1; boxes = []; lanes = record { cert = letter_lane; signing = no_signing; room = 4 } ∷ []; inlets = [] }
+abbrev pub sender : HostSetup
+sender = record { key = other_key; silent = false; signing = no_signing; procs = 1; boxes = []; lanes = record { cert = letter_lane; signing = no_signing; room = 4 } ∷ []; inlets = [] }
 
 -- both, and the lane's connection
 abbrev pub two_hosts : Plan
