@@ -1,12 +1,12 @@
 -- Chains by the lanes' words, and by the definition's.
 use Rattle.std.proofs.lemmas.Bool.{cases_eq}
 use Rattle.std.proofs.lemmas.List.{get_or-set_other, get_or-set_same}
-use Rattle.std.proofs.Common.{◌≡◌, ℕ, zero, suc, ◌+◌, ◌<◌, ◌≤◌, ◌⊎◌, ⊎_elim, inl, inr, get_or, slice_index, replicate, set, subst, List, [], ◌∷◌, ◌++◌, ◌∙◌, length, refl, sym, ap, append_assoc, arith}
+use Rattle.std.proofs.Common.{◌≡◌, ℕ, zero, suc, ◌+◌, ◌-◌, ◌<◌, ◌≤◌, ◌⊎◌, ⊎_elim, inl, inr, get_or, slice_index, replicate, set, subst, List, [], ◌∷◌, ◌++◌, ◌∙◌, length, refl, sym, ap, append_assoc, arith}
 use Rattle.sha2.specs.Sha256.{sha256}
 use Rattle.sha_lanes.specs.Lanes.{chained}
-use Rattle.lms_sig.specs.OneTime.{step, steps}
+use Rattle.lms_sig.specs.OneTime.{chain_end, step, steps, x}
 use Rattle.lms_sig.specs.Strings.{u16str, u32str, u8str}
-use Rattle.lms_sig.specs.Parameters.{digit_count}
+use Rattle.lms_sig.specs.Parameters.{chain_length, digit_count}
 use Rattle.lms_sig.specs.declared.params.OtsType.{OtsType}
 use Rattle.lms_sig.specs.declared.params.OtsType.TheVariants.{W4, W8}
 
@@ -17,6 +17,16 @@ chained_is I q i j zero tmp = refl
 chained_is I q i j (suc n) tmp =
     let p = I ++ u32str q ++ u16str i in
     ap (λ d. sha256 (p ++ (j + n) ∷ d)) (chained_is I q i j n tmp) ∙ ap sha256 (sym (append_assoc p ((j + n) ∷ []) (steps I q i j n tmp)))
+
+-- a chain from its secret start to its end, by the lanes' words
+pub end_is : (t : OtsType) (SEED I : List ℕ) (q i : ℕ) (start end : List ℕ) → start ≡ sha256 (I ++ u32str q ++ u16str i ++ 0xff ∷ SEED) →
+    end ≡ chained (I ++ u32str q ++ u16str i) 0 (chain_length t - 0) start → end ≡ chain_end t SEED I q i
+unfolding chain_end u8str x
+end_is t SEED I q i start end es ee =
+    let p = I ++ u32str q ++ u16str i in
+    let first : start ≡ x SEED I q i = es ∙ ap sha256 (sym (append_assoc p (0xff ∷ []) SEED)) in
+    let none : chain_length t - 0 ≡ chain_length t = omega arith in
+    rw (none, first) at ee ∙ chained_is I q i 0 (chain_length t) (x SEED I q i)
 
 -- one place more of a list that is filled from the front
 pub filled : {X : Type 0} (P : ℕ → X → Type 0) (xs : List X) (l n : ℕ) (x d : X) → length xs ≡ n → l < n →

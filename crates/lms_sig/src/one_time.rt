@@ -1,7 +1,7 @@
 //! LM-OTS one-time keys and signatures (RFC 8554, section 4).
 
 ghost use Rattle.std.specs.Prelude.{◌≡◌, ◌++◌, ◌+◌, ◌*◌, ◌/◌, ◌<◌, ◌≤◌, OnOk, ℕ, [], length, slice_index, slice_index_or, take, drop};
-ghost use Rattle.lms_sig.specs.OneTime.{Cksm, K, Kc, Q, ots_signature, y};
+ghost use Rattle.lms_sig.specs.OneTime.{Cksm, Kc, Q, ots_signature, y};
 ghost use Rattle.lms_sig.specs.Parameters.{chain_length, digit_count, ots_length, width};
 ghost use Rattle.lms_sig.specs.Strings.{coef, joined, part, u16str};
 
@@ -12,7 +12,7 @@ use crate::params::OtsType;
 use sha2::{Digest, Sha256};
 use std::alloc::AllocError;
 
-const PUBLIC: u16 = 0x8080;
+pub(crate) const PUBLIC: u16 = 0x8080;
 
 const MESSAGE: u16 = 0x8181;
 
@@ -52,19 +52,6 @@ fn values_of(ots: OtsType, values: &[u8]) -> [[u8; 32]; ROOM]
         out[i] = value_at(values, i);
     }
     out
-}
-
-// The one-time public key of leaf `q`.
-pub(crate) fn one_time_key(ots: OtsType, seed: &[u8; 32], id: &[u8; 16], q: u32) -> [u8; 32]
-    ensures { result ≡ K ots seed.now id.now q }
-{
-    let ends = ends(id, q, &[0; ROOM], &tops(ots), &secrets(seed, id, q));
-    let mut hasher = Sha256::new();
-    hasher.update(&prefix(id, q, PUBLIC));
-    'chains: for i in 0..ots.digit_count() {
-        hasher.update(&ends[i as usize]);
-    }
-    hasher.finalize()
 }
 
 // Digit `i` of some bytes.
