@@ -46,8 +46,8 @@ pub record Scheme : Type 0 where
   pub chain : List Delegation → (moment : ℕ) → Category → PubKey → List Delegation
   -- the first good address certificate of the exporter that is valid at the moment
   pub find : List Address → (moment : ℕ) → PubKey → Option Address
-  -- the delegation by an exporter, with the signature at this leaf of its key
-  pub delegation : SigningKey → (leaf : ℕ) → (by : PubKey) → Category → (to : PubKey) → (from until : ℕ) → Delegation
+  -- the signature, at this leaf of its key, of the delegation by an exporter
+  pub delegation_signature : SigningKey → (leaf : ℕ) → (by : PubKey) → Category → (to : PubKey) → (from until : ℕ) → List ℕ
   pub spelling : Delegation → List ℕ
   -- the delegation or address certificate that these bytes spell
   pub read_cert : List ℕ → Option Cert
@@ -62,3 +62,14 @@ pub record Scheme : Type 0 where
   pub ending : PubKey → List InletName → List ℕ → Option Failure
   -- whether a frame with this number and these messages stands in the stream, with a good signature under the key
   pub frame_signed : (key : PubKey) → (number : ℕ) → List Message → (stream : List ℕ) → Bool
+
+-- the delegation by an exporter, with the signature at this leaf of its key
+abbrev pub delegation_by : Scheme → SigningKey → (leaf : ℕ) → (by : PubKey) → Category → (to : PubKey) → (from until : ℕ) → Delegation
+delegation_by s signing leaf by c to from until = record {
+  category = c;
+  to = to;
+  from = from;
+  until = until;
+  by = by;
+  signature = s.delegation_signature signing leaf by c to from until;
+}

@@ -28,7 +28,7 @@ empty_scheme = record {
   holds = λ certs moment c key. false;
   chain = λ certs moment c key. [];
   find = λ addresses moment key. None;
-  delegation = λ signing leaf by c to from until. record { category = c; to = to; from = from; until = until; by = by; signature = [] };
+  delegation_signature = λ signing leaf by c to from until. [];
   spelling = λ d. [];
   read_cert = λ bytes. None;
   has_leaf = λ signing leaf. false;
