@@ -31,6 +31,7 @@ scheme = record {
   spelling = spelling_of_delegation;
   read_cert = λ bytes. if_read (read_cert bytes);
   has_leaf = λ k leaf. nat_lt leaf (leaves_of (key_of k));
+  has_lane_leaf = λ k leaf. nat_lt leaf (leaves_of (key_of k));
   hello = spelling_of_hello;
   frame = λ k leaf messages. frame_of (record { key = key_of k; next = leaf }) messages;
   items = items_of;
