@@ -32,7 +32,7 @@ use Rattle.ds_model.specs.Step.{Step, Frame, Accept, Deliver, HostAndConn, judge
 use Rattle.ds_model.proofs.Places.{at_alike, at_still, some_is}
 use Rattle.ds_model.proofs.Rechecks.{passes, good_is, lines_are}
 use Rattle.ds_delivery.specs.Rules.{sending, leading, releasing, arriving, entering, taking, is_above}
-use Rattle.ds_delivery.specs.Checked.{ByFirst, IfRuleFails, set, with_host, with_conn, with_proc, put_into, found_full, IsAt, IsOpen, SendChecked, IsFramed, FrameChecked, ArrivalChecked, BoxChecked, TakeChecked, EachChecked}
+use Rattle.ds_delivery.specs.Checked.{ByFirst, IfRuleFails, set, with_host, with_conn, with_proc, put_into, found_full, IsAt, IsOpen, IsWorking, SendChecked, IsFramed, FrameChecked, ArrivalChecked, BoxChecked, TakeChecked, EachChecked}
 use Rattle.ds_delivery.proofs.Lists.{in_none, in_head, in_tail, in_cases, in_filter, filter_in}
 use Rattle.ds_delivery.proofs.Kept.{passes_none}
 use Rattle.ds_delivery.proofs.RulesAre.{releasing_is, away_is, here_is, delivery_is, taking_is}
@@ -363,13 +363,17 @@ module _ (s : Scheme) (plan : Plan) (w : World) where
     sym (parted q).0,
     (parted q).1,
     lane_after_ask h l x e Lifts stands works (ap (lane_ask_hand s (lane_plan (host_plan plan h) l) e) hand ∙ ap (λ b. cond b Lifts WorkerWaits) ready)
-    ∙ ap₂ (λ qs ws. with_host w h (record x { queues = qs; workers = ws }))
-    (at_alike l lifted (λ _. lifted q) x.queues (λ u c. ap lifted (some_is u q (sym c ∙ queued))))
-    (one_worker x l e (lifted_after_reply (front_of (slice_get x.queues l))) works ∙ ap (λ o. set l (lifted_after_reply (front_of o) e) x.workers) queued),
+        ∙ ap₂ (λ qs ws. with_host w h (record x { queues = qs; workers = ws }))
+        (at_alike l lifted (λ _. lifted q) x.queues (λ u c. ap lifted (some_is u q (sym c ∙ queued))))
+        (one_worker x l e (lifted_after_reply (front_of (slice_get x.queues l))) works ∙ ap (λ o. set l (lifted_after_reply (front_of o) e) x.workers) queued),
   )
 
   pub frame_checked : FrameChecked s plan w
-  frame_checked = record { judges = frames; waits = waits; lifts = lifts }
+  frame_checked = record {
+    judges = λ h l x e m others log is hand prints. frames h l x e m others log is.stands is.works hand prints;
+    waits = λ h l x e is hand spent. waits h l x e is.stands is.works hand spent;
+    lifts = λ h l x e q is queued hand ready. lifts h l x e q is.stands is.works queued hand ready;
+  }
 
   -- CONNECTIONS
 

@@ -24,4 +24,5 @@ pub record IsFrom (s : Scheme) (plan : Plan) (start : World) (h b : ℕ) (mail :
 -- whatever message an event of a run puts into a mailbox, a process of the host puts it there, or a connection does
 abbrev pub EachIsPut : Type 0
 EachIsPut = (s : Scheme) (plan : Plan) (start : World) (before : List Event) (e : Event) (h b : ℕ) (mail : Mail Category) →
-    access s plan (run s plan start before) e h ≡ InBox b (PutIn mail) → ((p : ℕ) × PutsHere s plan start h p b mail before e) ⊎ IsFrom s plan start h b mail before e
+    access s plan (run s plan start before) e h ≡ InBox b (PutIn mail) →
+    ((p : ℕ) × PutsHere s plan start h p b mail before e) ⊎ IsFrom s plan start h b mail before e

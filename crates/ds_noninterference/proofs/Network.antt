@@ -327,14 +327,17 @@ unfolding Rattle.ds_label.specs.Flow.flows Rattle.ds_label.specs.Flow.same_label
 same_marks = refl
 
 pub met : IsNetMet
-met = (scheme, record {
-  secret = refl;
-  fits = fits;
-  start_one = start yes_script;
-  start_two = start no_script;
-  agree = record { start = alike; same_marks = same_marks };
-  obeys_one = obeys (net_world yes_script) yes_events yes_along;
-  obeys_two = obeys (net_world no_script) no_events no_along;
-  unforged_one = unforged (net_world yes_script) yes_events yes_along;
-  unforged_two = unforged (net_world no_script) no_events no_along;
-})
+met = (
+  scheme,
+  record {
+    secret = refl;
+    fits = fits;
+    start_one = start yes_script;
+    start_two = start no_script;
+    agree = record { start = alike; same_marks = same_marks };
+    obeys_one = obeys (net_world yes_script) yes_events yes_along;
+    obeys_two = obeys (net_world no_script) no_events no_along;
+    unforged_one = unforged (net_world yes_script) yes_events yes_along;
+    unforged_two = unforged (net_world no_script) no_events no_along;
+  },
+)

@@ -1,4 +1,5 @@
--- The one scheme of this repository: LMS signatures, shortest chains, and the one spelling of certificates, hellos and frames.
+-- The one scheme of this repository: LMS signatures, shortest chains, and the one spelling of certificates, hellos
+-- and frames.
 use Rattle.std.specs.Prelude.{ℕ, List, nat_lt}
 use Rattle.lms_state.specs.Signers.{Signing, leaves_of, next_signature}
 use Rattle.ds_cert.specs.Good.{is_good_delegation, is_good_address}
