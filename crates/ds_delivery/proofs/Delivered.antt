@@ -15,7 +15,7 @@ use Rattle.ds_delivery.specs.Premises.{Written, stream_with, items_with, CanBeWr
 use Rattle.ds_delivery.specs.Delivered.{DeliveredLawfully}
 use Rattle.ds_delivery.proofs.Lists.{in_none, in_cases, in_map}
 use Rattle.ds_model.specs.ExporterRules.{sender_rule}
-use Rattle.ds_model.specs.ProcessStep.{box_of, mail_of}
+use Rattle.ds_model.specs.ProcessStep.{box_of}
 use Rattle.ds_model.specs.ConnectionStep.{ConnAsk, PutsPassed, deliver}
 use Rattle.ds_delivery.proofs.Conns.{HandFacts, DeliverFacts, deliver_facts}
 use Rattle.ds_delivery.proofs.Kept.{IsWhole, QueuedBefore, WasFramed, KeptWorker}

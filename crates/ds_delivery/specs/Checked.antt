@@ -15,7 +15,7 @@ use Rattle.ds_model.specs.Lists.{at}
 use Rattle.ds_model.specs.Keys.{same_key}
 use Rattle.ds_model.specs.FirstRule.{unless, first_rule}
 use Rattle.ds_model.specs.Scheme.{Scheme, Framed}
-use Rattle.ds_model.specs.Plan.{HostPlan, Plan, host_plan, receiving_host, conn_plan, box_plan, lane_plan}
+use Rattle.ds_model.specs.Plan.{Plan, host_plan, receiving_host, conn_plan, box_plan, lane_plan}
 use Rattle.ds_model.specs.Mailbox.{PutIn, FoundFull, TookOut}
 use Rattle.ds_model.specs.Inlet.{Inlet}
 use Rattle.ds_model.specs.World.{Process, Mail, Mailbox, Waiting, Queue, Worker, LaneLine, QueuedLine, FullLine, DroppedLine, ConnLine, FrameLine, StaleLine, PassLine, DropLine, Conn, Host, World, Passed}

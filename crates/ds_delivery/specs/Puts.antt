@@ -2,12 +2,10 @@
 use Rattle.std.specs.Prelude.{◌≡◌, ◌⊎◌, ℕ, List}
 use Rattle.ds_label.specs.declared.category.Category.{Category}
 use Rattle.ds_cert.specs.declared.lane.LaneCert.{LaneCert}
-use Rattle.ds_msg.specs.declared.message.Message.{Message}
 use Rattle.ds_model.specs.Scheme.{Scheme}
 use Rattle.ds_model.specs.Plan.{Plan, conn_plan}
 use Rattle.ds_model.specs.Mailbox.{PutIn}
 use Rattle.ds_model.specs.World.{Mail, World, Passed}
-use Rattle.ds_model.specs.ProcessStep.{mail_of}
 use Rattle.ds_model.specs.Step.{Event, run}
 use Rattle.ds_model.specs.Access.{InBox, access}
 use Rattle.ds_model.specs.Lawful.{PutsHere, PutsFrom}

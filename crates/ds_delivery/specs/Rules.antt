@@ -1,8 +1,7 @@
 -- The rules of each act, one by one, in the order in which they are asked. Each is a fact of labels, ownership,
 -- holders and moments, and the rule that is broken where the fact doesn't hold.
-use Rattle.std.specs.Prelude.{ℕ, ◌==◌, Bool, true, false, not, ◌&&◌, ◌||◌, List, [], ◌∷◌, ◌++◌, Option, Some, None, length, find, is_some, option_map, nat_lt, nat_le}
+use Rattle.std.specs.Prelude.{ℕ, ◌==◌, Bool, true, false, not, ◌&&◌, ◌||◌, List, [], ◌∷◌, ◌++◌, Option, Some, None, find, is_some, option_map, nat_lt, nat_le}
 use Rattle.std.specs.List.{list_all}
-use Rattle.ds_label.specs.declared.category.PubKey.{PubKey}
 use Rattle.ds_label.specs.declared.category.Category.{Category}
 use Rattle.ds_label.specs.declared.rule.Rule.{Rule}
 use Rattle.ds_label.specs.declared.rule.Rule.TheVariants.{NotKnown, NotFlow, GrantNotOwned, ClearNotHeld, NoLane, NoAddress, PeerNotTrusted, LaneLapsed, WrongHost, WrongLabel, SenderNotTrusted, NoBox, NotFlowToBox, NotFlowToTaker}

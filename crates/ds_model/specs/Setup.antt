@@ -1,5 +1,5 @@
 -- How setup leaves a plan and a world.
-use Rattle.std.specs.Prelude.{◌≡◌, ℕ, List, [], Some, None, slice_get}
+use Rattle.std.specs.Prelude.{◌≡◌, ℕ, [], Some, None, slice_get}
 use Rattle.ds_model.specs.Scheme.{Scheme}
 use Rattle.ds_model.specs.Plan.{Plan, OfLane, IsLane, host_plan, conn_plan, lane_plan}
 use Rattle.ds_model.specs.World.{Process, Queue, Worker, Conn, Host, World}

@@ -1,6 +1,6 @@
 -- What the law asks: of the scheme, of a plan, of the trusted hosts, and of the outside. Of the worlds at the start
 -- it asks `IsSetup`.
-use Rattle.std.specs.Prelude.{◌≡◌, ◌≢◌, ◌<◌, ◌≤◌, ℕ, Bool, true, false, List, [], ◌++◌, Some, None, slice_get, ◌⊎◌, Contains, take}
+use Rattle.std.specs.Prelude.{◌≡◌, ◌≢◌, ◌<◌, ◌≤◌, ℕ, Bool, true, false, List, ◌++◌, Some, None, slice_get, ◌⊎◌, Contains, take}
 use Rattle.ds_label.specs.declared.category.PubKey.{PubKey}
 use Rattle.ds_label.specs.declared.category.Category.{Category}
 use Rattle.ds_cert.specs.declared.delegation.Delegation.{Delegation}

@@ -1,5 +1,5 @@
 -- Small worlds, in which the definitions compute.
-use Rattle.std.specs.Prelude.{◌≡◌, ℕ, zero, suc, true, false, List, [], ◌∷◌, Option, Some, None, option_map, slice_get, replicate, codes}
+use Rattle.std.specs.Prelude.{◌≡◌, ℕ, zero, suc, false, List, [], ◌∷◌, Option, Some, None, option_map, slice_get, replicate, codes}
 use Rattle.ds_label.specs.declared.category.Kind.TheVariants.{Secrecy}
 use Rattle.ds_label.specs.declared.category.PubKey.{PubKey}
 use Rattle.ds_label.specs.declared.category.Category.{Category}

@@ -2,7 +2,6 @@
 -- place of signatures and spelling stands a toy: a hello is one byte, a frame is its number, and each frame that is
 -- read has the one message that there is.
 use Rattle.std.specs.Prelude.{◌≡◌, ℕ, true, false, List, [], ◌∷◌, Option, Some, None, map, option_map, slice_get, replicate, codes}
-use Rattle.ds_label.specs.declared.category.PubKey.{PubKey}
 use Rattle.ds_cert.specs.declared.address.Address.{Address}
 use Rattle.ds_cert.specs.declared.lane.LaneCert.{LaneCert}
 use Rattle.ds_msg.specs.declared.message.Message.{Message}
