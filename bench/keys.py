@@ -1,10 +1,10 @@
 #!/usr/bin/env python3
-"""Prints what the timed program saw, as times and as a share of the plain loop's rate of compressions."""
+"""Prints what each build of the timed program saw: the least time of all rounds, and how many times the plain loop's rate."""
 import hashlib
 import sys
 
 SEED, NAME, LEAF, MESSAGE = bytes([1]) * 32, bytes([2]) * 16, 3, b"a short message"
-TYPES = [("5.3", 5, 4, 67), ("5.4", 5, 8, 34), ("6.3", 10, 4, 67), ("6.4", 10, 8, 34)]
+TYPES = {"5.3": (5, 4, 67), "5.4": (5, 8, 34), "6.3": (10, 4, 67), "6.4": (10, 8, 34)}
 
 
 def blocks(size):
@@ -23,6 +23,7 @@ def digits(width, chains):
 
 
 def compressions(height, width, chains):
+    """The blocks that a plain program hashes for a key, a signature and a check."""
     whole = chains * ((1 << width) - 1)
     wide = blocks(22 + 32 * chains)
     leaves = 1 << height
@@ -32,18 +33,29 @@ def compressions(height, width, chains):
     return make, 1 + hashed + chains + steps, hashed + (whole - steps) + wide + blocks(54) + height * blocks(86)
 
 
-seen = [line.split() for line in open(sys.argv[1])]
-plain = min(int(nanos) / int(count) for name, count, nanos in seen if name == "plain")
-print(f"plain loop: {plain:.0f} ns a compression")
-for name, count, nanos in seen:
-    if name in ("make", "sign", "verify"):
-        types, height, width, chains = TYPES[int(count)]
-        make, sign, verify = compressions(height, width, chains)
-        work, runs = {"make": (make, 1), "sign": (sign, 200), "verify": (verify, 200)}[name]
-        each = int(nanos) / runs
-        print(f"{name} {types}: {each / 1e6:.3f} ms, {1e9 / each:.0f} a second, {work} compressions, "
-              f"{100 * work * plain / each:.0f} % of the plain loop's rate")
-    if name == "search":
-        print(f"search in 256 delegations, one line: {int(nanos) / 200 / 1e6:.3f} ms ({count} of 200 answers right)")
-    if name == "good" and int(count) != 200:
-        sys.exit("a signature was refused")
+def least(path):
+    """The least time of one call, by what was called and the types."""
+    found = {}
+    for line in open(path):
+        name, types, count, nanos = line.split()
+        if name == "good" and count != nanos:
+            sys.exit("a signature was refused")
+        if name in ("plain", "lanes", "make", "sign", "verify", "search"):
+            each = int(nanos) / (200 if name == "search" else int(count))
+            found[name, types] = min(each, found.get((name, types), each))
+    return found
+
+
+for word in sys.argv[1:]:
+    build, path = word.split("=")
+    found = least(path)
+    plain, lanes = found["plain", "5.3"], found["lanes", "5.3"]
+    print(f"{build}: plain loop {plain:.0f} ns a block, {1e3 / plain:.2f} million a second; "
+          f"lanes {lanes:.0f} ns, {1e3 / lanes:.2f} million a second, {plain / lanes:.2f} times")
+    for (name, types), each in found.items():
+        if name in ("make", "sign", "verify"):
+            work = compressions(*TYPES[types])[("make", "sign", "verify").index(name)]
+            print(f"{build}: {name} {types}: {each / 1e6:.3f} ms, {1e9 / each:.2f} a second, {work} blocks, "
+                  f"{work * plain / each:.2f} times the plain loop's rate")
+        if name == "search":
+            print(f"{build}: search in 256 delegations, one line: {each / 1e6:.3f} ms")

@@ -7,7 +7,7 @@ here=$(cd "$(dirname "$0")" && pwd)
 folder=$(mktemp -d)
 trap 'rm -rf "$folder"' EXIT
 mkdir -p "$folder/crates/timed/src" "$folder/crates/timed/proofs/bodies"
-for crate in ds_wire ds_label ds_script lms_sig ds_cert ds_msg ds_frame ds_model ds_inlet; do
+for crate in ds_wire ds_label ds_script sha_lanes lms_sig ds_cert ds_msg ds_frame ds_model ds_inlet; do
     cp -r "$here/../crates/$crate" "$folder/crates/$crate"
 done
 cp "$here/../HANDLES" "$folder/"
@@ -15,7 +15,8 @@ cat > "$folder/crates.txt" <<'T'
 ds_wire: thiserror
 ds_label: thiserror
 ds_script: ds_wire ds_label
-lms_sig: sha2 thiserror
+sha_lanes: sha2
+lms_sig: sha_lanes sha2 thiserror
 ds_cert: ds_wire ds_label lms_sig thiserror
 ds_msg: ds_wire ds_label ds_cert
 ds_frame: ds_wire ds_label ds_cert lms_sig thiserror

@@ -42,5 +42,5 @@ reading_of s = record { reader = s.reader; faults = s.faults; ends = s.ends }
 abbrev pub writing_of : {W : Type 0} → WriteSinkFields W → Writing W
 writing_of s = record { writer = s.writer; faults = s.faults }
 
-abbrev pub folder_of : {R F D : Type 0} → FileKeeperFields R F D → Folder
+abbrev pub folder_of : {R D : Type 0} → FileKeeperFields R D → Folder
 folder_of k = record { faults = k.faults }

@@ -101,6 +101,7 @@ impl Keeper for MemKeeper {
 
     fn raise(&mut self, name: &[u8; 16], to: u64) -> Result<(), Failed>
         ensures due { IsDue self.old.plan → IsErr result }
+        ensures stands { IsKept self.old.marks name.now → IsErr result → IsDue self.old.plan }
         ensures plan { MatchResult result (λ _. self.new.plan ≡ passed self.old.plan) (λ _. self.new.plan ≡ failed self.old.plan) }
         ensures ok { OnOk result (Raised (Some (mark_of self.old.marks)) name.now to (Some (mark_of self.new.marks))) }
         ensures err { OnErr result (MayBeRaised (Some (mark_of self.old.marks)) name.now to (Some (mark_of self.new.marks))) }

@@ -14,9 +14,11 @@ use std::alloc::{AllocError, Global};
 use std::collections::VecDeque;
 use std::marker::Model;
 use std::mem;
+use thiserror::Error;
 
 /// No message waits.
-#[derive(Clone, Copy, PartialEq, Eq, Debug)]
+#[derive(Clone, Copy, PartialEq, Eq, Debug, Error)]
+#[error("no message waits")]
 pub struct Empty;
 
 /// A mailbox of a host: its label, the process that owns it, how many messages it has room for, what waits, and the

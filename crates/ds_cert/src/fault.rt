@@ -21,11 +21,13 @@ pub enum CertFault {
 }
 
 /// Why the fields up to a place could not be read.
-#[derive(Clone, Copy, Debug, PartialEq, Eq)]
+#[derive(Clone, Copy, Debug, PartialEq, Eq, Error)]
 pub enum ReadFault {
     /// From the first byte of the faulty field on there are that many bytes.
+    #[error("malformed {0} bytes before the end")]
     Left(usize),
     /// Memory ran out.
+    #[error("out of memory")]
     NoMemory,
 }
 

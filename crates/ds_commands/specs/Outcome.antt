@@ -2,6 +2,7 @@
 use Rattle.std.specs.Prelude.{◌≡◌, ℕ, suc, ◌⊎◌, List, Bool, true, false, Option, Some, None, Result, Ok, Err}
 use Rattle.ds_base.specs.Counts.{Rose}
 use Rattle.ds_base.specs.Marks.{IsMark, Raised, MayBeRaised}
+use Rattle.lms_sig.specs.declared.params.Params.{Params}
 use Rattle.lms_sig.specs.Keys.{derived_id}
 use Rattle.ds_commands.specs.declared.command.Command.{Command}
 use Rattle.ds_commands.specs.declared.command.Command.TheVariants.{Keygen, Sign, Verify, Chain}
@@ -10,7 +11,7 @@ use Rattle.ds_commands.specs.declared.reply.Reply.TheVariants.{Prints}
 use Rattle.ds_commands.specs.declared.reply.CommandFault.{CommandFault}
 use Rattle.ds_commands.specs.declared.reply.CommandFault.TheVariants.{KeeperFault, NoMemory}
 use Rattle.ds_commands.specs.Lines.{secret_alone, secret_and_message}
-use Rattle.ds_commands.specs.Replies.{reply_of}
+use Rattle.ds_commands.specs.Replies.{reply_of, sign_reply}
 
 -- whether a command looks at its key's mark
 abbrev pub asks_mark : Command → Bool
@@ -61,11 +62,31 @@ pub record Unsure (command : Command) (input : List ℕ) (before after : Option 
   pub is_mark : IsMark before name mark
   pub raised : MayBeRaised before name (suc mark) after
 
+-- the marks where the keeper failed: as they were; of `sign` the raise may be what failed
+abbrev pub MarksAfterFault : Command → List ℕ → (before after : Option (List ℕ → ℕ)) → Type 0
+MarksAfterFault (Keygen params index) input before after = after ≡ before
+MarksAfterFault (Sign params index) input before after = (after ≡ before) ⊎ Unsure (Sign params index) input before after
+MarksAfterFault Verify input before after = after ≡ before
+MarksAfterFault (Chain moment) input before after = after ≡ before
+
 -- why there is no answer: the keeper failed, of a command that looks at a mark, or memory ran out
 abbrev pub Failed : CommandFault → Command → List ℕ → (faults faults' : ℕ) → (before after : Option (List ℕ → ℕ)) → Type 0
 Failed KeeperFault command input faults faults' before after =
-    (asks_mark command ≡ true) × Rose faults faults' × ((after ≡ before) ⊎ Unsure command input before after)
+    (asks_mark command ≡ true) × Rose faults faults' × MarksAfterFault command input before after
 Failed NoMemory command input faults faults' before after = after ≡ before
+
+-- the answer of `sign` of a secret and a message, by the mark that the key had
+pub record Signed (params : Params) (index : ℕ) (secret message : List ℕ) (before after : Option (List ℕ → ℕ)) (reply : Reply) : Type 0 where
+  pub mark : ℕ
+  pub marked : IsMark before (derived_id secret index) mark
+  pub answers : reply ≡ sign_reply params index mark (Ok (secret, message))
+  pub marks : MarksAfter (uses_leaf (Sign params index) reply) (Some (derived_id secret index)) mark before after
+
+-- why `sign` has no answer: the keeper failed to tell the mark or to raise it, or memory ran out
+abbrev pub Unsigned : CommandFault → (name : List ℕ) → (faults faults' : ℕ) → (before after : Option (List ℕ → ℕ)) → Type 0
+Unsigned KeeperFault name faults faults' before after =
+    Rose faults faults' × ((after ≡ before) ⊎ ((mark : ℕ) × IsMark before name mark × MayBeRaised before name (suc mark) after))
+Unsigned NoMemory name faults faults' before after = after ≡ before
 
 -- why no signature was handed out: the raise failed, or memory ran out
 abbrev pub Stopped : CommandFault → (faults faults' : ℕ) → (name : List ℕ) → (mark : ℕ) → (before after : Option (List ℕ → ℕ)) → Type 0

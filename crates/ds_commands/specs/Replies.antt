@@ -25,11 +25,14 @@ key_text params index mark secret =
     codes "key " ++ encode_lower (public_key params (derived_seed secret index) (derived_id secret index))
     ++ codes "\nnext " ++ decimal (min mark (leaf_count params.lms)) ++ codes "\n"
 
+-- a leaf, and a signature
+abbrev pub text_of_signature : (leaf : ℕ) → (signature : List ℕ) → List ℕ
+text_of_signature leaf made = codes "q " ++ decimal leaf ++ codes "\n" ++ encode_lower made ++ codes "\n"
+
 -- the leaf, and the signature of the message at that leaf
 abbrev pub signature_text : Params → ℕ → (leaf : ℕ) → (secret message : List ℕ) → List ℕ
 signature_text params index leaf secret message =
-    codes "q " ++ decimal leaf ++ codes "\n"
-    ++ encode_lower (signature params (derived_seed secret index) (derived_id secret index) leaf message) ++ codes "\n"
+    text_of_signature leaf (signature params (derived_seed secret index) (derived_id secret index) leaf message)
 
 -- the names of what is wrong with a signature
 abbrev pub bad_name : Bad → List ℕ

@@ -1,20 +1,22 @@
 //! The answers about keys.
 
-ghost use Rattle.std.specs.Prelude.{◌≡◌, ◌≤◌, ◌<◌, ◌+◌, ◌^◌, ◌↔◌, ℕ, length, true, false, IfOk, IfErr, OnOk, ◌++◌, decimal};
+ghost use Rattle.std.specs.Prelude.{◌≡◌, ◌≤◌, ◌<◌, ◌+◌, ◌^◌, ◌↔◌, ℕ, length, true, false, IfOk, IfErr, OnOk, ◌++◌, codes, decimal};
 ghost use Rattle.hex.specs.Hex.{encode_lower};
 ghost use Rattle.lms_sig.specs.Parameters.{leaf_count};
 ghost use Rattle.lms_sig.specs.Keys.{derived_id};
 ghost use Rattle.ds_commands.specs.declared.command.Command.TheVariants.{Keygen, Sign};
 ghost use Rattle.ds_base.specs.Marks.{Raised};
-ghost use Rattle.ds_commands.specs.Outcome.{Failed, Replied, Stopped};
-ghost use Rattle.ds_commands.specs.Replies.{key_text, signature_text};
+ghost use Rattle.lms_state.specs.Signers.{leaves_of, next_signature};
+ghost use Rattle.ds_commands.specs.Outcome.{Failed, Replied, Signed, Stopped, Unsigned};
+ghost use Rattle.ds_commands.specs.Replies.{key_text, text_of_signature};
 
 use crate::command::Command;
 use crate::lines::{LineFault, secret_alone, secret_and_message};
 use crate::reply::{CommandFault, Reply};
 use ds_base::Keeper;
-use ds_wire::Bytes;
+use ds_wire::{Buffer, Bytes};
 use lms_sig::{LmsType, Params, TreeKey, derive};
+use lms_state::{SignFault, Signer};
 use std::alloc::{AllocError, Global};
 
 /// How many leaves a key of these types has.
@@ -63,27 +65,40 @@ fn key_text(
     Ok(out)
 }
 
-/// The leaf, and the signature of the message at it.
-fn signature_text(
-    alloc: Global,
-    params: Params,
-    index: u32,
-    leaf: u32,
-    secret: &[u8; 32],
-    message: &[u8],
-) -> Result<Vec<u8>, AllocError>
-    requires { leaf < leaf_count params.lms }
-    ensures { IfOk result (λ text. text.items ≡ signature_text params index leaf secret.now message.now) }
+/// The most bytes of a signature.
+const SIGNATURE_LIMIT: usize = 2508;
+
+/// The most bytes of the text of `sign`: a letter and a space, the leaf in decimal, the signature in hex, and two line feeds.
+const TEXT_LIMIT: usize = 2 * SIGNATURE_LIMIT + 24;
+
+/// Appends bytes in hex. It takes no memory.
+fn fill_hex(text: &mut Buffer, bytes: &[u8])
+    requires short { length bytes.now ≤ 2508 }
+    requires room { 5016 ≤ text.old.spare }
+    ensures bytes { text.new.bytes ≡ text.old.bytes ++ encode_lower bytes.now }
+    ensures room { text.old.spare ≤ text.new.spare + 5016 }
 {
-    let (seed, id) = derive(secret, index);
-    let key = TreeKey::make(alloc, params, seed, id)?;
-    let signature = key.sign_at(leaf, message)?;
-    let mut out = Vec::from_slice(alloc, b"q ")?;
-    push_number(&mut out, u64::from(leaf))?;
-    out.extend_from_slice(b"\n")?;
-    push_hex(&mut out, &signature)?;
-    out.extend_from_slice(b"\n")?;
-    Ok(out)
+    let mut digits = [0; 2 * SIGNATURE_LIMIT];
+    let room = &mut digits[..2 * bytes.len()];
+    match hex::encode_to_slice(bytes, room) {
+        Ok(()) => {}
+        Err(_) => unreachable!(),
+    }
+    text.fill(&digits[..2 * bytes.len()]);
+}
+
+/// Writes the leaf and the signature. It takes no memory.
+fn fill_signature(text: &mut Buffer, leaf: u32, signature: &[u8])
+    requires short { length signature.now ≤ 2508 }
+    requires room { 5040 ≤ text.old.spare }
+    ensures { text.new.bytes ≡ text.old.bytes ++ (codes "q " ++ decimal leaf ++ codes "\n" ++ encode_lower signature.now ++ codes "\n") }
+{
+    let mut number = itoa::Buffer::new();
+    text.fill(b"q ");
+    text.fill(number.format(leaf).as_bytes());
+    text.fill(b"\n");
+    fill_hex(text, signature);
+    text.fill(b"\n");
 }
 
 /// The answer of `keygen`.
@@ -113,31 +128,61 @@ pub(crate) fn keygen<K: Keeper>(
     }
 }
 
-/// The answer of `sign`, where the mark is below the number of leaves: the signature is made, then the mark is raised, and
-/// only then is the signature handed out.
-fn sign_at<K: Keeper>(
+/// The text of `sign`, at the signer's next leaf, where one is left. Its memory is taken first; then the signer signs, which
+/// raises the mark past the leaf before it hands the signature out.
+fn signed_text<K: Keeper>(
+    alloc: Global,
+    keeper: &mut K,
+    signer: &mut Signer,
+    message: &[u8],
+) -> Result<Bytes, CommandFault>
+    requires left { signer.old.next < leaves_of signer.old.key }
+    ensures faults { K.faults keeper.old ≤ K.faults keeper.new }
+    ensures text { IfOk result (λ text. text ≡ text_of_signature signer.old.next (next_signature signer.old message.now)) }
+    ensures ok { OnOk result (Raised (K.tells keeper.old) signer.old.key.id (signer.old.next + 1) (K.tells keeper.new)) }
+    ensures err { IfErr result (λ e. Stopped e (K.faults keeper.old) (K.faults keeper.new) signer.old.key.id signer.old.next (K.tells keeper.old) (K.tells keeper.new)) }
+{
+    let leaf = signer.next();
+    let mut text = Buffer::new(alloc);
+    if text.reserve(TEXT_LIMIT).is_err() {
+        return Err(CommandFault::NoMemory);
+    }
+    match signer.sign(keeper, message) {
+        Ok(signature) => {
+            fill_signature(&mut text, leaf, &signature);
+            Ok(text.into_bytes())
+        }
+        Err(SignFault::KeeperFault) => Err(CommandFault::KeeperFault),
+        Err(SignFault::NoMemory) => Err(CommandFault::NoMemory),
+        Err(SignFault::Spent) => unreachable!(),
+    }
+}
+
+/// The answer of `sign`, of a secret and a message.
+fn signed<K: Keeper>(
     alloc: Global,
     keeper: &mut K,
     params: Params,
     index: u32,
-    leaf: u32,
     secret: &[u8; 32],
     message: &[u8],
-) -> Result<Bytes, CommandFault>
-    requires { leaf < leaf_count params.lms }
+) -> Result<Reply, CommandFault>
     ensures faults { K.faults keeper.old ≤ K.faults keeper.new }
-    ensures text { IfOk result (λ text. text ≡ signature_text params index leaf secret.now message.now) }
-    ensures ok { OnOk result (Raised (K.tells keeper.old) (derived_id secret.now index) (leaf + 1) (K.tells keeper.new)) }
-    ensures err { IfErr result (λ e. Stopped e (K.faults keeper.old) (K.faults keeper.new) (derived_id secret.now index) leaf (K.tells keeper.old) (K.tells keeper.new)) }
+    ensures ok { IfOk result (λ reply. Signed params index secret.now message.now (K.tells keeper.old) (K.tells keeper.new) reply) }
+    ensures err { IfErr result (λ e. Unsigned e (derived_id secret.now index) (K.faults keeper.old) (K.faults keeper.new) (K.tells keeper.old) (K.tells keeper.new)) }
 {
-    let Ok(text) = signature_text(alloc, params, index, leaf, secret, message) else {
+    let (seed, id) = derive(secret, index);
+    let Ok(key) = TreeKey::make(alloc, params, seed, id) else {
         return Err(CommandFault::NoMemory);
     };
-    let (_, id) = derive(secret, index);
-    match keeper.raise(&id, u64::from(leaf) + 1) {
-        Ok(()) => Ok(Bytes::from_vec(text)),
-        Err(_) => Err(CommandFault::KeeperFault),
+    let Ok(mut signer) = Signer::resume(key, keeper) else {
+        return Err(CommandFault::KeeperFault);
+    };
+    if signer.left() == 0 {
+        return Ok(Reply::Spends);
     }
+    let text = signed_text(alloc, keeper, &mut signer, message)?;
+    Ok(Reply::Prints(text))
 }
 
 /// The answer of `sign`.
@@ -157,13 +202,5 @@ pub(crate) fn sign<K: Keeper>(
         Err(LineFault::Line(line)) => return Ok(Reply::Breaks(12, line)),
         Err(LineFault::NoMemory) => return Err(CommandFault::NoMemory),
     };
-    let (_, id) = derive(&secret, index);
-    let Ok(mark) = keeper.mark(&id) else {
-        return Err(CommandFault::KeeperFault);
-    };
-    if mark >= u64::from(leaves(params)) {
-        return Ok(Reply::Spends);
-    }
-    let text = sign_at(alloc, keeper, params, index, mark as u32, &secret, message)?;
-    Ok(Reply::Prints(text))
+    signed(alloc, keeper, params, index, &secret, message)
 }

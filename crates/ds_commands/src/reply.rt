@@ -1,6 +1,7 @@
 //! What is answered.
 
 use ds_wire::Bytes;
+use thiserror::Error;
 
 /// What a command answers.
 #[derive(Debug, Drop)]
@@ -16,10 +17,12 @@ pub enum Reply {
 }
 
 /// Why a command gave no answer.
-#[derive(Clone, Copy, Drop, Debug, PartialEq, Eq)]
+#[derive(Clone, Copy, Drop, Debug, PartialEq, Eq, Error)]
 pub enum CommandFault {
     /// The keeper failed.
+    #[error("the keeper failed")]
     KeeperFault,
     /// An allocation was refused.
+    #[error("out of memory")]
     NoMemory,
 }

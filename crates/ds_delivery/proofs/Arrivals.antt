@@ -8,7 +8,7 @@ use Rattle.ds_model.specs.Plan.{HostPlan, LanePlan, Source, Link, OfLane, lane_p
 use Rattle.ds_model.specs.Desk.{Ticked, desk_after}
 use Rattle.ds_model.specs.World.{Process, Waiting, Worker, Conn, Host, World}
 use Rattle.ds_model.specs.ProcessStep.{Ask, Waits, Internal, Put, Admit, TakeFrom, PublicAct, AsksJudgement, ask}
-use Rattle.ds_model.specs.WorkerStep.{LaneAsk, WorkerWaits, Lifts, AsksRecheck, lane_ask, lifted_after_reply, checked_after_reply, with_frame, still_good}
+use Rattle.ds_model.specs.WorkerStep.{LaneAsk, WorkerWaits, Lifts, AsksRecheck, lane_ask, rechecked, lifted_after_reply, checked_after_reply, with_frame, still_good}
 use Rattle.ds_model.specs.ConnectionStep.{ConnAsk, ConnWaits, ConnInternal, AsksInlet, AsksArrival, PutsPassed, arrive}
 use Rattle.ds_model.specs.Step.{perform, step_proc, front_of, perform_lane, step_lane, perform_conn, stream_from, worker_at, stream_of, arrived, ticked}
 use Rattle.ds_model.proofs.Places.{at_here, at_other, at_each}
@@ -70,7 +70,7 @@ lane_grows s plan x l (Some e) = go (lane_ask s (lane_plan plan l) e)
     go : (a : LaneAsk) → HostGrows x (perform_lane s plan x l a)
     go WorkerWaits = λ j. grows_self (stream_from (slice_get x.workers j))
     go Lifts = worker_grows (lifted_after_reply (front_of (slice_get x.queues l))) (λ e'. grows_self e'.stream) l x.workers
-    go AsksRecheck = worker_grows (checked_after_reply s (lane_plan plan l) x.desk) (λ e'. frame_grows s (lane_plan plan l) e' (still_good s x.desk e'.hand)) l x.workers
+    go (AsksRecheck hand) = worker_grows (checked_after_reply s (lane_plan plan l) (rechecked s x.desk hand)) (λ e'. frame_grows s (lane_plan plan l) e' (still_good (rechecked s x.desk hand) e'.hand)) l x.workers
 
 pub conn_grows : (s : Scheme) (plan : HostPlan) (x : Host) (y : Conn) (a : ConnAsk) → HostGrows x (perform_conn s plan x y a).host
 conn_grows s plan x y ConnWaits l = grows_self _

@@ -112,12 +112,12 @@ ask_facts plan p x = hand_facts plan p x x.hand refl
 
 abbrev pub LaneFacts : Scheme → LanePlan → Worker → LaneAsk → Type 0
 LaneFacts s plan e WorkerWaits = Unit {0}
-LaneFacts s plan e Lifts = s.has_leaf plan.signing e.leaf ≡ true
-LaneFacts s plan e AsksRecheck = e.hand ≢ []
+LaneFacts s plan e Lifts = s.has_lane_leaf plan.signing e.leaf ≡ true
+LaneFacts s plan e (AsksRecheck hand) = (e.hand ≡ hand) × (e.hand ≢ [])
 
 lane_hand_facts : (s : Scheme) (plan : LanePlan) (e : Worker) (ms : List Waiting) → e.hand ≡ ms → LaneFacts s plan e (lane_ask_hand s plan e ms)
-lane_hand_facts s plan e (m ∷ ms) is = λ none. absurd (let no : [] ≡ m ∷ ms = sym none ∙ is in grind arith)
-lane_hand_facts s plan e [] is = cond_case (LaneFacts s plan e) (s.has_leaf plan.signing e.leaf) Lifts WorkerWaits (λ has. has) (λ _. tt)
+lane_hand_facts s plan e (m ∷ ms) is = (is, λ none. absurd (let no : [] ≡ m ∷ ms = sym none ∙ is in grind arith))
+lane_hand_facts s plan e [] is = cond_case (LaneFacts s plan e) (s.has_lane_leaf plan.signing e.leaf) Lifts WorkerWaits (λ has. has) (λ _. tt)
 
 pub lane_facts : (s : Scheme) (plan : LanePlan) (e : Worker) → LaneFacts s plan e (lane_ask s plan e)
 lane_facts s plan e = lane_hand_facts s plan e e.hand refl

@@ -1,5 +1,5 @@
 -- The five checks.
-use Rattle.std.proofs.Common.{◌≡◌, ◌≢◌, min, take, length-take, ℕ, Bool, true, false, cond, List, [], ◌∷◌, ◌++◌, Option, Some, None, length, slice_get, flat_map, Contains, refl, sym, ◌∙◌, ap, ap₂, subst, ◌⊎◌, inl, inr, arith}
+use Rattle.std.proofs.Common.{◌≡◌, ◌≢◌, min, take, length-take, ℕ, suc, Bool, true, false, cond, List, [], ◌∷◌, ◌++◌, Option, Some, None, length, map, slice_get, filter, flat_map, Contains, refl, sym, ◌∙◌, ap, ap₂, subst, ◌⊎◌, inl, inr, arith}
 use Rattle.std.proofs.lemmas.List.Elements.{Contains-append_left, Contains-append_right, Contains-append_cases}
 use Rattle.std.proofs.lemmas.List.{take-append-drop}
 use Rattle.std.specs.Prelude.{nat_lt, if◌then◌else◌}
@@ -19,38 +19,45 @@ use Rattle.ds_model.specs.FirstRule.{unless, first_rule}
 use Rattle.ds_model.specs.ProcessRules.{mailbox_rule}
 use Rattle.ds_model.specs.Scheme.{Scheme, Framed}
 use Rattle.ds_model.specs.Plan.{HostPlan, LanePlan, Plan, host_plan, conn_plan, box_plan, lane_plan}
-use Rattle.ds_model.specs.Mailbox.{PutIn, FoundFull, box_enter, put, oldest, took}
+use Rattle.ds_model.specs.Mailbox.{PutIn, FoundFull, TookOut, box_enter, put, oldest, took, took_with}
 use Rattle.ds_model.specs.Lane.{Queued, QueueFull, lane_after, admit_entry, admit, front, lifted, frame_limit}
 use Rattle.ds_model.specs.Inlet.{Inlet, Fresh, inlet_after, is_fresh, numbered}
 use Rattle.ds_model.specs.Inlet as entries
 use Rattle.ds_model.specs.Desk.{Desk}
 use Rattle.ds_model.specs.World.{Process, Mail, Mailbox, Waiting, Queue, Worker, LaneLine, QueuedLine, FullLine, FramedLine, DroppedLine, PassLine, DropLine, Conn, Host, World, Passed}
 use Rattle.ds_model.specs.ProcessStep.{Ask, Put, Admit, TakeFrom, AsksJudgement, noted, refused, box_of, label_of, Target, Not, Into, target, judge_box, message_of, send_rule, mail_of, send_here, send_away, send, take_rule, take_from, ask_outer, ask_inner, queue_at, ask_hand, ask, taken_after_reply, judged_after_reply}
-use Rattle.ds_model.specs.WorkerStep.{WorkerWaits, Lifts, AsksRecheck, lane_ask_hand, lane_ask, frame_rule, passes, still_good, checked_after_reply, lifted_after_reply, dropped_line, framed_line, checked_lines, admitted_line}
-use Rattle.ds_model.specs.ConnectionStep.{ConnWaits, AsksInlet, AsksArrival, PutsPassed, peer, inlet_of, fresh_frame, stale_frame, take_frame, frame_from, accept_item, accept_free, accept, put_passed, deliver_to, deliver_from, deliver, target_rule, judge_delivery, delivery_after_reply, passed_of}
-use Rattle.ds_model.specs.Step.{Step, Frame, Accept, Deliver, judged, attached, arrived, perform, checked_in, front_of, perform_lane, step_lane, fresh_in, perform_conn, step_conn, with_ends, lined, admitted_lines, oldest_in, step}
-use Rattle.ds_model.proofs.Places.{at_still, some_is}
-use Rattle.ds_delivery.specs.Checked.{IfRuleFails, thing, IsAt, IsOpen, FindsRoom, SendChecked, IsFramed, FrameChecked, ArrivalChecked, BoxChecked, TakeChecked, EachChecked}
-use Rattle.ds_delivery.proofs.Afters.{changed, host_after, frame_after, accept_after, deliver_after, accept_end, deliver_end}
+use Rattle.ds_model.specs.WorkerStep.{LaneAsk, WorkerWaits, Lifts, AsksRecheck, lane_ask_hand, lane_ask, frame_rule, rechecked, with_frame, checked_after_reply, lifted_after_reply, dropped_line, framed_line, admitted_line}
+use Rattle.ds_model.specs.ConnectionStep.{ConnAsk, ConnWaits, AsksInlet, AsksArrival, PutsPassed, peer, inlet_of, fresh_frame, stale_frame, take_frame, frame_from, accept_item, accept_free, accept, put_passed, deliver_to, deliver_from, deliver, target_rule, judge_delivery, delivery_after_reply, passed_of}
+use Rattle.ds_model.specs.Step.{Step, Frame, Accept, Deliver, judged, attached, arrived, perform, step_proc, checked_in, front_of, perform_lane, step_lane, fresh_in, perform_conn, step_conn, with_ends, lined, admitted_lines, oldest_in, step}
+use Rattle.ds_model.proofs.Places.{at_alike, at_still, some_is}
+use Rattle.ds_model.proofs.Rechecks.{passes, good_is, lines_are}
+use Rattle.ds_delivery.specs.Rules.{is_above}
+use Rattle.ds_delivery.specs.Checked.{ByFirst, IfRuleFails, set, with_host, with_conn, with_proc, put_into, found_full, IsAt, IsOpen, SendChecked, IsFramed, FrameChecked, ArrivalChecked, BoxChecked, TakeChecked, EachChecked}
 use Rattle.ds_delivery.proofs.Lists.{in_none, in_head, in_tail, in_cases, in_filter, filter_in}
 use Rattle.ds_delivery.proofs.Kept.{passes_none}
+use Rattle.ds_delivery.proofs.RulesAre.{releasing_is, away_is, here_is, delivery_is, taking_is}
+
+-- a claim by cases on a rule
+
+by_rule : {D E : Rule → Type 0} {P Q : Type 0} (r : Option Rule) → ((rule : Rule) → D rule → E rule) → (P → Q) → ByFirst r D P → ByFirst r E Q
+by_rule (Some rule) f g c = f rule c
+by_rule None f g c = g c
+
+by_same : (D : Rule → Type 0) (P : Type 0) (q r : Option Rule) → q ≡ r → ByFirst r D P → ByFirst q D P
+by_same D P q r e c = subst (λ z. ByFirst z D P) (sym e) c
 
 -- a mailbox's room
-
-pub box_room : (s : Scheme) (plan : Plan) (w : World) (h : ℕ) (x : Host) (after : World) (mail : Mail Category) (b : ℕ) (x' : Host) → slice_get after.hosts h ≡ Some x' → x'.boxes ≡ at b (put (box_plan (host_plan plan h) b).room mail) x.boxes → FindsRoom s plan w h b x after mail
-box_room s plan w h x after mail b x' there boxes z e = go (nat_lt (length z.waiting) (box_plan (host_plan plan h) b).room) refl
+room_is : (room b : ℕ) (mail : Mail Category) (boxes : List Mailbox) (z : Mailbox) → slice_get boxes b ≡ Some z →
+    IfRuleFails (unless (nat_lt (length z.waiting) room) BoxFull ∷ []) (λ rule. at b (put room mail) boxes ≡ set b (found_full mail z) boxes) (at b (put room mail) boxes ≡ set b (put_into mail z) boxes)
+room_is room b mail boxes z there = go (nat_lt (length z.waiting) room) refl
   where
-    box : thing after h (λ u. u.boxes) b ≡ Some (put (box_plan (host_plan plan h) b).room mail z)
-    box = ap (λ (q : Option Host). onward q (λ u. slice_get u.boxes b)) there ∙ (ap (λ bs. slice_get bs b) boxes ∙ changed b (put (box_plan (host_plan plan h) b).room mail) x.boxes z e)
+    here : at b (put room mail) boxes ≡ set b (put room mail z) boxes
+    here = at_alike b (put room mail) (λ _. put room mail z) boxes (λ y e. ap (put room mail) (some_is y z (sym e ∙ there)))
 
-    go : (c : Bool) → nat_lt (length z.waiting) (box_plan (host_plan plan h) b).room ≡ c →
-        IfRuleFails (unless c BoxFull)
-        (λ rule. thing after h (λ u. u.boxes) b ≡ Some (record { waiting = z.waiting; entries = z.entries ++ FoundFull mail ∷ [] }))
-        (thing after h (λ u. u.boxes) b ≡ Some (record { waiting = z.waiting ++ mail ∷ []; entries = z.entries ++ PutIn mail ∷ [] }))
-    go true r = box ∙ ap (λ c. Some (box_enter (if c then PutIn mail else FoundFull mail) z)) r
-    go false r = box ∙ ap (λ c. Some (box_enter (if c then PutIn mail else FoundFull mail) z)) r
-
--- A PROCESS'S STEP
+    go : (c : Bool) → nat_lt (length z.waiting) room ≡ c →
+        IfRuleFails (unless c BoxFull ∷ []) (λ rule. at b (put room mail) boxes ≡ set b (found_full mail z) boxes) (at b (put room mail) boxes ≡ set b (put_into mail z) boxes)
+    go true e = here ∙ ap (λ c. set b (box_enter (if c then PutIn mail else FoundFull mail) z) boxes) e
+    go false e = here ∙ ap (λ c. set b (box_enter (if c then PutIn mail else FoundFull mail) z) boxes) e
 
 -- an operation that isn't one of the five inside the process is asked of the outside
 asks_outer : (plan : HostPlan) (p : ℕ) (y : Process) (op : Op) → y.hand ≡ None → slice_get y.script y.course.place ≡ Some op → inner_op op y.course ≡ None → ask plan p y ≡ ask_outer plan p y (Some op)
@@ -61,101 +68,151 @@ asks_outer plan p y op free at_op outer =
     ∙ ap (ask_outer plan p y) at_op))
 
 module _ (s : Scheme) (plan : Plan) (w : World) where
-  module _ (h p : ℕ) (x : Host) (y : Process) (stands : slice_get w.hosts h ≡ Some x) (acts : slice_get x.procs p ≡ Some y) where
-    -- a thing of the host after it asked
-    after_ask : {X : Type 0} (list : Host → List X) (i : ℕ) (a : Ask) → ask (host_plan plan h) p y ≡ a → (o : Option X) → slice_get (list (perform s (host_plan plan h) x p a)) i ≡ o → thing (step s plan w (Step h p)) h list i ≡ o
-    after_ask {X} list i a is o e = ap (λ (q : Option Host). onward q (λ u. slice_get (list u) i)) (host_after s plan w h p x y stands acts a is) ∙ e
+  -- the world after an event
 
-    -- a refusal
-    is_refused : (rule : Rule) → ask (host_plan plan h) p y ≡ refused rule y → thing (step s plan w (Step h p)) h (λ u. u.procs) p ≡ Some (noted (notes.Refused rule) y)
-    is_refused rule is = after_ask (λ (u : Host). u.procs) p (refused rule y) is (Some (noted (notes.Refused rule) y)) (changed p (λ _. noted (notes.Refused rule) y) x.procs y acts)
+  module _ (h p : ℕ) (x : Host) (y : Process) (stands : slice_get w.hosts h ≡ Some x) (acts : slice_get x.procs p ≡ Some y) where
+    world_after : (a : Ask) → ask (host_plan plan h) p y ≡ a → step s plan w (Step h p) ≡ with_host w h (perform s (host_plan plan h) x p a)
+    world_after a is = ap (λ hs. record { hosts = hs; conns = w.conns }) (at_alike h (λ z. step_proc s (host_plan plan h) z p (slice_get z.procs p)) (λ _. perform s (host_plan plan h) x p a) w.hosts
+        (λ z e. ap (λ (u : Host). step_proc s (host_plan plan h) u p (slice_get u.procs p)) (some_is z x (sym e ∙ stands)) ∙ (ap (step_proc s (host_plan plan h) x p) acts ∙ ap (perform s (host_plan plan h) x p) is)))
+
+    is_refused : (rule : Rule) → ask (host_plan plan h) p y ≡ refused rule y → step s plan w (Step h p) ≡ with_host w h (with_proc x p (noted (notes.Refused rule) y))
+    is_refused rule is = world_after (refused rule y) is
+
+    -- a change of the process alone
+    one_proc : (f : Process → Process) → at p f x.procs ≡ set p (f y) x.procs
+    one_proc f = at_alike p f (λ _. f y) x.procs (λ z e. ap f (some_is z y (sym e ∙ acts)))
 
     -- a send to another host
 
     away_by : (m : Message) → (a b : Option Rule) → send_rule (host_plan plan h) y m ≡ a → judged s (host_plan plan h) x.desk m ≡ b → ask (host_plan plan h) p y ≡ send_away y m (send_rule (host_plan plan h) y m) →
-        IfRuleFails (first_rule (a ∷ b ∷ []))
-        (λ rule. thing (step s plan w (Step h p)) h (λ u. u.procs) p ≡ Some (noted (notes.Refused rule) y))
-        (thing (step s plan w (Step h p)) h (λ u. u.procs) p ≡ Some (record y { hand = Some (record m { certs = attached s (host_plan plan h) x.desk m }) }))
+        ByFirst (first_rule (a ∷ b ∷ []))
+        (λ rule. step s plan w (Step h p) ≡ with_host w h (with_proc x p (noted (notes.Refused rule) y)))
+        (step s plan w (Step h p) ≡ with_host w h (with_proc x p (record y { hand = Some (record m { certs = attached s (host_plan plan h) x.desk m }) })))
     away_by m (Some rule) b sender desk is = is_refused rule (is ∙ ap (send_away y m) sender)
-    away_by m None (Some rule) sender desk is = after_ask (λ (u : Host). u.procs) p (AsksJudgement m) (is ∙ ap (send_away y m) sender) (Some (noted (notes.Refused rule) y))
-        (changed p (judged_after_reply m (attached s (host_plan plan h) x.desk m) (judged s (host_plan plan h) x.desk m)) x.procs y acts ∙ ap (λ o. Some (judged_after_reply m (attached s (host_plan plan h) x.desk m) o y)) desk)
-    away_by m None None sender desk is = after_ask (λ (u : Host). u.procs) p (AsksJudgement m) (is ∙ ap (send_away y m) sender) (Some (record y { hand = Some (record m { certs = attached s (host_plan plan h) x.desk m }) }))
-        (changed p (judged_after_reply m (attached s (host_plan plan h) x.desk m) (judged s (host_plan plan h) x.desk m)) x.procs y acts ∙ ap (λ o. Some (judged_after_reply m (attached s (host_plan plan h) x.desk m) o y)) desk)
+    away_by m None (Some rule) sender desk is = world_after (AsksJudgement m) (is ∙ ap (send_away y m) sender)
+        ∙ (ap (λ ps. with_host w h (record x { procs = ps })) (one_proc (judged_after_reply m (attached s (host_plan plan h) x.desk m) (judged s (host_plan plan h) x.desk m)))
+        ∙ ap (λ o. with_host w h (with_proc x p (judged_after_reply m (attached s (host_plan plan h) x.desk m) o y))) desk)
+    away_by m None None sender desk is = world_after (AsksJudgement m) (is ∙ ap (send_away y m) sender)
+        ∙ (ap (λ ps. with_host w h (record x { procs = ps })) (one_proc (judged_after_reply m (attached s (host_plan plan h) x.desk m) (judged s (host_plan plan h) x.desk m)))
+        ∙ ap (λ o. with_host w h (with_proc x p (judged_after_reply m (attached s (host_plan plan h) x.desk m) o y))) desk)
 
     -- a send to the own host
 
     abbrev PutInto : Message → Type 0
-    PutInto m = (b : ℕ) × (box_of (host_plan plan h) m.slot ≡ Some b) × (thing (step s plan w (Step h p)) h (λ u. u.procs) p ≡ Some (noted notes.Sent y)) × FindsRoom s plan w h b x (step s plan w (Step h p)) (mail_of (host_plan plan h).key m)
+    PutInto m = (b : ℕ) × (box_of (host_plan plan h) m.slot ≡ Some b) × ((z : Mailbox) → slice_get x.boxes b ≡ Some z →
+        IfRuleFails (unless (nat_lt (length z.waiting) (box_plan (host_plan plan h) b).room) BoxFull ∷ [])
+        (λ rule. step s plan w (Step h p) ≡ with_host w h (record (with_proc x p (noted notes.Sent y)) { boxes = set b (found_full (mail_of (host_plan plan h).key m) z) x.boxes }))
+        (step s plan w (Step h p) ≡ with_host w h (record (with_proc x p (noted notes.Sent y)) { boxes = set b (put_into (mail_of (host_plan plan h).key m) z) x.boxes })))
 
     puts_into : (m : Message) (b : ℕ) → box_of (host_plan plan h) m.slot ≡ Some b → ask (host_plan plan h) p y ≡ Put b (mail_of (host_plan plan h).key m) (noted notes.Sent y) → PutInto m
     puts_into m b box is = (
       b,
       box,
-      after_ask (λ (u : Host). u.procs) p (Put b (mail_of (host_plan plan h).key m) (noted notes.Sent y)) is (Some (noted notes.Sent y)) (changed p (λ _. noted notes.Sent y) x.procs y acts),
-      box_room s plan w h x (step s plan w (Step h p)) (mail_of (host_plan plan h).key m) b (perform s (host_plan plan h) x p (Put b (mail_of (host_plan plan h).key m) (noted notes.Sent y))) (host_after s plan w h p x y stands acts (Put b (mail_of (host_plan plan h).key m) (noted notes.Sent y)) is) refl,
+      λ z there. by_rule (first_rule (unless (nat_lt (length z.waiting) (box_plan (host_plan plan h) b).room) BoxFull ∷ [])) (λ rule e. after ∙ ap boxed e) (λ e. after ∙ ap boxed e) (room_is (box_plan (host_plan plan h) b).room b (mail_of (host_plan plan h).key m) x.boxes z there),
     )
+      where
+        boxed : List Mailbox → World
+        boxed boxes = with_host w h (record (with_proc x p (noted notes.Sent y)) { boxes = boxes })
+
+        after : step s plan w (Step h p) ≡ boxed (at b (put (box_plan (host_plan plan h) b).room (mail_of (host_plan plan h).key m)) x.boxes)
+        after = world_after (Put b (mail_of (host_plan plan h).key m) (noted notes.Sent y)) is
 
     here_by : (m : Message) → (a : Option Rule) (t : Target) → send_rule (host_plan plan h) y m ≡ a → judge_box (host_plan plan h) m.slot m.label ≡ t → ask (host_plan plan h) p y ≡ send_here (host_plan plan h) y m (send_rule (host_plan plan h) y m) (judge_box (host_plan plan h) m.slot m.label) →
-        IfRuleFails (first_rule (a ∷ target_rule t ∷ []))
-        (λ rule. thing (step s plan w (Step h p)) h (λ u. u.procs) p ≡ Some (noted (notes.Refused rule) y))
+        ByFirst (first_rule (a ∷ target_rule t ∷ []))
+        (λ rule. step s plan w (Step h p) ≡ with_host w h (with_proc x p (noted (notes.Refused rule) y)))
         (PutInto m)
     here_by m (Some rule) t sender box is = is_refused rule (is ∙ ap (λ o. send_here (host_plan plan h) y m o (judge_box (host_plan plan h) m.slot m.label)) sender)
     here_by m None (Not rule) sender box is = is_refused rule (is ∙ ap₂ (λ o t. send_here (host_plan plan h) y m o t) sender box)
     here_by m None (Into b) sender box is = puts_into m b (into (box_of (host_plan plan h) m.slot) box) (is ∙ ap₂ (λ o t. send_here (host_plan plan h) y m o t) sender box)
       where
-        by_rule : (c : ℕ) (r : Option Rule) → target (Some c) r ≡ Into b → Some c ≡ Some b
-        by_rule c None e = cc
-        by_rule c (Some rule) e = absurd (grind arith)
+        by_target : (c : ℕ) (r : Option Rule) → target (Some c) r ≡ Into b → Some c ≡ Some b
+        by_target c None e = cc
+        by_target c (Some rule) e = absurd (grind arith)
 
         into : (o : Option ℕ) → target o (mailbox_rule by_name (label_of (host_plan plan h) o) m.label) ≡ Into b → o ≡ Some b
         into None e = absurd (grind arith)
-        into (Some c) e = by_rule c (mailbox_rule by_name (label_of (host_plan plan h) (Some c)) m.label) e
+        into (Some c) e = by_target c (mailbox_rule by_name (label_of (host_plan plan h) (Some c)) m.label) e
 
     -- a take
 
+    abbrev TakeOut : (reg slot b : ℕ) → Mailbox → Type 0
+    TakeOut reg slot b z = (z.waiting ≡ [] → step s plan w (Step h p) ≡ w)
+        × ((mail : Mail Category) (others : List (Mail Category)) → z.waiting ≡ mail ∷ others →
+        step s plan w (Step h p) ≡ with_host w h (record (with_proc x p (taken_after_reply reg slot (Some mail) y)) { boxes = set b (record { waiting = others; entries = z.entries ++ TookOut ∷ [] }) x.boxes }))
+
+    take_out : (reg slot b : ℕ) (z : Mailbox) → ask (host_plan plan h) p y ≡ TakeFrom b reg slot → slice_get x.boxes b ≡ Some z → TakeOut reg slot b z
+    take_out reg slot b z is there = (
+      λ none. after ∙ (λ i. with_host w h (record x { procs = quiet none i; boxes = at_still b took x.boxes (λ u e. ap took (some_is u z (sym e ∙ there)) ∙ (took_is none ∙ some_is z u (sym there ∙ e))) i }))
+          ∙ ap (λ hs. record { hosts = hs; conns = w.conns }) (at_still h (λ _. x) w.hosts (λ u e. some_is x u (sym stands ∙ e))),
+      λ mail others some. after ∙ (λ i. with_host w h (record x {
+        procs = (one_proc (taken_after_reply reg slot (oldest_in (slice_get x.boxes b))) ∙ ap (λ o. set p (taken_after_reply reg slot o y) x.procs) (first some)) i;
+        boxes = (at_alike b took (λ _. took z) x.boxes (λ u e. ap took (some_is u z (sym e ∙ there))) ∙ ap (λ t. set b t x.boxes) (took_one mail others some)) i;
+      })),
+    )
+      where
+        after : step s plan w (Step h p) ≡ with_host w h (perform s (host_plan plan h) x p (TakeFrom b reg slot))
+        after = world_after (TakeFrom b reg slot) is
+
+        first : {mail : Mail Category} {others : List (Mail Category)} → z.waiting ≡ mail ∷ others → oldest_in (slice_get x.boxes b) ≡ Some mail
+        first some = ap oldest_in there ∙ ap (λ (ms : List (Mail Category)). slice_get ms 0) some
+
+        quiet : z.waiting ≡ [] → at p (taken_after_reply reg slot (oldest_in (slice_get x.boxes b))) x.procs ≡ x.procs
+        quiet none = at_still p (taken_after_reply reg slot (oldest_in (slice_get x.boxes b))) x.procs (λ u e. ap (λ o. taken_after_reply reg slot o u) (ap oldest_in there ∙ ap (λ (ms : List (Mail Category)). slice_get ms 0) none))
+
+        took_is : z.waiting ≡ [] → took z ≡ z
+        took_is none = ap (took_with z) (ap (λ (ms : List (Mail Category)). slice_get ms 0) none)
+
+        took_one : (mail : Mail Category) (others : List (Mail Category)) → z.waiting ≡ mail ∷ others → took z ≡ record { waiting = others; entries = z.entries ++ TookOut ∷ [] }
+        took_one mail others some = ap (took_with z) (ap (λ (ms : List (Mail Category)). slice_get ms 0) some) ∙ ap (λ (ms : List (Mail Category)). record { waiting = Rattle.ds_model.specs.Mailbox.box_after TookOut ms; entries = z.entries ++ TookOut ∷ [] }) some
+
     take_by : (reg slot : ℕ) (o : Option ℕ) (r : Option Rule) → box_of (host_plan plan h) slot ≡ o → take_rule (host_plan plan h) p y o ≡ r → ask (host_plan plan h) p y ≡ take_from y reg slot o r →
-        IfRuleFails r
-        (λ rule. thing (step s plan w (Step h p)) h (λ u. u.procs) p ≡ Some (noted (notes.Refused rule) y))
-        ((b : ℕ) × (box_of (host_plan plan h) slot ≡ Some b) × ((z : Mailbox) → slice_get x.boxes b ≡ Some z →
-        (thing (step s plan w (Step h p)) h (λ u. u.procs) p ≡ Some (taken_after_reply reg slot (oldest z) y)) × (thing (step s plan w (Step h p)) h (λ u. u.boxes) b ≡ Some (took z))))
+        ByFirst r
+        (λ rule. step s plan w (Step h p) ≡ with_host w h (with_proc x p (noted (notes.Refused rule) y)))
+        ((b : ℕ) × (box_of (host_plan plan h) slot ≡ Some b) × ((z : Mailbox) → slice_get x.boxes b ≡ Some z → TakeOut reg slot b z))
     take_by reg slot o (Some rule) box r is = is_refused rule is
     take_by reg slot None None box r is = absurd (grind arith)
-    take_by reg slot (Some b) None box r is = (
-      b,
-      box,
-      λ z e. (
-        after_ask (λ (u : Host). u.procs) p (TakeFrom b reg slot) is (Some (taken_after_reply reg slot (oldest z) y)) (changed p (taken_after_reply reg slot (oldest_in (slice_get x.boxes b))) x.procs y acts ∙ ap (λ q. Some (taken_after_reply reg slot (oldest_in q) y)) e),
-        after_ask (λ (u : Host). u.boxes) b (TakeFrom b reg slot) is (Some (took z)) (changed b took x.boxes z e),
-      ),
-    )
+    take_by reg slot (Some b) None box r is = (b, box, λ z there. take_out reg slot b z is there)
 
     -- a judged message onto its lane
 
     queue_by : (l : ℕ) (m : Message) (q : Queue) (log : List LaneLine) → ask (host_plan plan h) p y ≡ Admit l m (noted notes.Sent (record y { hand = None })) → slice_get x.queues l ≡ Some q → slice_get x.logs l ≡ Some log → (c : Bool) → nat_lt (length q) (lane_plan (host_plan plan h) l).room ≡ c →
-        IfRuleFails (unless c LaneFull)
-        (λ rule. (thing (step s plan w (Step h p)) h (λ u. u.queues) l ≡ Some q) × (thing (step s plan w (Step h p)) h (λ u. u.logs) l ≡ Some (log ++ FullLine (record { sender = p; message = m }) ∷ [])))
-        ((thing (step s plan w (Step h p)) h (λ u. u.queues) l ≡ Some (q ++ record { sender = p; message = m } ∷ [])) × (thing (step s plan w (Step h p)) h (λ u. u.logs) l ≡ Some (log ++ QueuedLine (record { sender = p; message = m }) ∷ [])))
+        IfRuleFails (unless c LaneFull ∷ [])
+        (λ rule. step s plan w (Step h p) ≡ with_host w h (record (with_proc x p (noted notes.Sent (record y { hand = None }))) { logs = set l (log ++ FullLine (record { sender = p; message = m }) ∷ []) x.logs }))
+        (step s plan w (Step h p) ≡ with_host w h (record (with_proc x p (noted notes.Sent (record y { hand = None }))) {
+          queues = set l (q ++ record { sender = p; message = m } ∷ []) x.queues;
+          logs = set l (log ++ QueuedLine (record { sender = p; message = m }) ∷ []) x.logs;
+        }))
     queue_by l m q log is waits prints = go
       where
-        queue : thing (step s plan w (Step h p)) h (λ u. u.queues) l ≡ Some (admit (lane_plan (host_plan plan h) l).room (record { sender = p; message = m }) q)
-        queue = after_ask (λ (u : Host). u.queues) l (Admit l m (noted notes.Sent (record y { hand = None }))) is (Some (admit (lane_plan (host_plan plan h) l).room (record { sender = p; message = m }) q)) (changed l (admit (lane_plan (host_plan plan h) l).room (record { sender = p; message = m })) x.queues q waits)
+        v : Waiting
+        v = record { sender = p; message = m }
 
-        lines : thing (step s plan w (Step h p)) h (λ u. u.logs) l ≡ Some (log ++ admitted_line (admit_entry (lane_plan (host_plan plan h) l).room (record { sender = p; message = m }) q))
-        lines = after_ask (λ (u : Host). u.logs) l (Admit l m (noted notes.Sent (record y { hand = None }))) is (Some (log ++ admitted_line (admit_entry (lane_plan (host_plan plan h) l).room (record { sender = p; message = m }) q)))
-            (changed l (lined (admitted_lines (lane_plan (host_plan plan h) l).room (record { sender = p; message = m }) (slice_get x.queues l))) x.logs log prints ∙ ap (λ o. Some (log ++ admitted_lines (lane_plan (host_plan plan h) l).room (record { sender = p; message = m }) o)) waits)
+        room : ℕ
+        room = (lane_plan (host_plan plan h) l).room
 
-        go : (c : Bool) → nat_lt (length q) (lane_plan (host_plan plan h) l).room ≡ c →
-            IfRuleFails (unless c LaneFull)
-            (λ rule. (thing (step s plan w (Step h p)) h (λ u. u.queues) l ≡ Some q) × (thing (step s plan w (Step h p)) h (λ u. u.logs) l ≡ Some (log ++ FullLine (record { sender = p; message = m }) ∷ [])))
-            ((thing (step s plan w (Step h p)) h (λ u. u.queues) l ≡ Some (q ++ record { sender = p; message = m } ∷ [])) × (thing (step s plan w (Step h p)) h (λ u. u.logs) l ≡ Some (log ++ QueuedLine (record { sender = p; message = m }) ∷ [])))
-        go true r = (
-          queue ∙ ap (λ c. Some (lane_after (if c then Queued (record { sender = p; message = m }) else QueueFull (record { sender = p; message = m })) q)) r,
-          lines ∙ ap (λ c. Some (log ++ admitted_line (if c then Queued (record { sender = p; message = m }) else QueueFull (record { sender = p; message = m })))) r,
-        )
-        go false r = (
-          queue ∙ ap (λ c. Some (lane_after (if c then Queued (record { sender = p; message = m }) else QueueFull (record { sender = p; message = m })) q)) r,
-          lines ∙ ap (λ c. Some (log ++ admitted_line (if c then Queued (record { sender = p; message = m }) else QueueFull (record { sender = p; message = m })))) r,
-        )
+        sent : List Queue → List (List LaneLine) → World
+        sent queues logs = with_host w h (record (with_proc x p (noted notes.Sent (record y { hand = None }))) { queues = queues; logs = logs })
+
+        queued : at l (admit room v) x.queues ≡ set l (admit room v q) x.queues
+        queued = at_alike l (admit room v) (λ _. admit room v q) x.queues (λ u e. ap (admit room v) (some_is u q (sym e ∙ waits)))
+
+        printed : at l (lined (admitted_lines room v (slice_get x.queues l))) x.logs ≡ set l (log ++ admitted_line (admit_entry room v q)) x.logs
+        printed = at_alike l (lined (admitted_lines room v (slice_get x.queues l))) (λ _. log ++ admitted_line (admit_entry room v q)) x.logs
+            (λ u e. ap₂ (λ lines o. lines ++ admitted_lines room v o) (some_is u log (sym e ∙ prints)) waits)
+
+        after : step s plan w (Step h p) ≡ sent (set l (admit room v q) x.queues) (set l (log ++ admitted_line (admit_entry room v q)) x.logs)
+        after = world_after (Admit l m (noted notes.Sent (record y { hand = None }))) is ∙ ap₂ sent queued printed
+
+        by_entry : (c : Bool) → nat_lt (length q) room ≡ c → admit_entry room v q ≡ (if c then Queued v else QueueFull v)
+        by_entry c e = ap (λ b. if b then Queued v else QueueFull v) e
+
+        go : (c : Bool) → nat_lt (length q) room ≡ c →
+            IfRuleFails (unless c LaneFull ∷ [])
+            (λ rule. step s plan w (Step h p) ≡ with_host w h (record (with_proc x p (noted notes.Sent (record y { hand = None }))) { logs = set l (log ++ FullLine v ∷ []) x.logs }))
+            (step s plan w (Step h p) ≡ sent (set l (q ++ v ∷ []) x.queues) (set l (log ++ QueuedLine v ∷ []) x.logs))
+        go true e = after ∙ ap (λ entry. sent (set l (lane_after entry q) x.queues) (set l (log ++ admitted_line entry) x.logs)) (by_entry true e)
+        go false e = after ∙ (ap (λ entry. sent (set l (lane_after entry q) x.queues) (set l (log ++ admitted_line entry) x.logs)) (by_entry false e)
+            ∙ ap (λ queues. sent queues (set l (log ++ FullLine v ∷ []) x.logs)) (at_still l (λ _. q) x.queues (λ u e'. some_is q u (sym waits ∙ e'))))
 
   -- the send that a process is at
   asks_send : (h p : ℕ) (x : Host) (y : Process) (host slot reg : ℕ) (label own clear : List Category) (m : Message) → IsAt s plan w h p x y (ops.Send host slot reg label own clear) → m ≡ message_of (host_plan plan h) y host slot reg label own clear → ask (host_plan plan h) p y ≡ send (host_plan plan h) y m
@@ -163,25 +220,28 @@ module _ (s : Scheme) (plan : Plan) (w : World) where
 
   pub send_checked : SendChecked s plan w
   send_checked = record {
-    judges = λ h p x y host slot reg label own clear m is says other. away_by h p x y is.stands is.acts m (send_rule (host_plan plan h) y m) (judged s (host_plan plan h) x.desk m) refl refl
-        (asks_send h p x y host slot reg label own clear m is says ∙ ap (λ b. cond b (send_here (host_plan plan h) y m (send_rule (host_plan plan h) y m) (judge_box (host_plan plan h) m.slot m.label)) (send_away y m (send_rule (host_plan plan h) y m))) other);
+    judges = λ h p x y to slot reg label own clear m is says other. by_same _ _ _ _ (away_is s (host_plan plan h) x.desk y m)
+        (away_by h p x y is.stands is.acts m (send_rule (host_plan plan h) y m) (judged s (host_plan plan h) x.desk m) refl refl
+        (asks_send h p x y to slot reg label own clear m is says ∙ ap (λ b. cond b (send_here (host_plan plan h) y m (send_rule (host_plan plan h) y m) (judge_box (host_plan plan h) m.slot m.label)) (send_away y m (send_rule (host_plan plan h) y m))) other));
     queues = λ h p l x y m q log stands acts hand lane waits prints.
-        let is : ask (host_plan plan h) p y ≡ Admit l m (noted notes.Sent (record y { hand = None })) = ap (ask_hand (host_plan plan h) p y) hand ∙ ap (queue_at y m) lane in (
-          after_ask h p x y stands acts (λ (u : Host). u.procs) p (Admit l m (noted notes.Sent (record y { hand = None }))) is (Some (noted notes.Sent (record y { hand = None }))) (changed p (λ _. noted notes.Sent (record y { hand = None })) x.procs y acts),
-          queue_by h p x y stands acts l m q log is waits prints (nat_lt (length q) (lane_plan (host_plan plan h) l).room) refl,
-        );
+        queue_by h p x y stands acts l m q log (ap (ask_hand (host_plan plan h) p y) hand ∙ ap (queue_at y m) lane) waits prints (nat_lt (length q) (lane_plan (host_plan plan h) l).room) refl;
   }
 
   pub take_checked : TakeChecked s plan w
   take_checked = record {
-    judges = λ h p x y reg slot is. take_by h p x y is.stands is.acts reg slot (box_of (host_plan plan h) slot) (take_rule (host_plan plan h) p y (box_of (host_plan plan h) slot)) refl refl
-        (asks_outer (host_plan plan h) p y (ops.Take reg slot) is.free is.operation refl);
+    judges = λ h p x y reg slot is. by_same _ _ _ _ (taking_is (host_plan plan h) p y slot)
+        (take_by h p x y is.stands is.acts reg slot (box_of (host_plan plan h) slot) (take_rule (host_plan plan h) p y (box_of (host_plan plan h) slot)) refl refl
+        (asks_outer (host_plan plan h) p y (ops.Take reg slot) is.free is.operation refl));
   }
 
   -- FRAMING
 
-  checks : (lane : LanePlan) (e : Worker) (m : Waiting) (others : List Waiting) → e.hand ≡ m ∷ others → lane_ask s lane e ≡ AsksRecheck
-  checks lane e m others hand = ap (lane_ask_hand s lane e) hand
+  lane_after_ask : (h l : ℕ) (x : Host) (e : Worker) (a : LaneAsk) → slice_get w.hosts h ≡ Some x → slice_get x.workers l ≡ Some e → lane_ask s (lane_plan (host_plan plan h) l) e ≡ a → step s plan w (Frame h l) ≡ with_host w h (perform_lane s (host_plan plan h) x l a)
+  lane_after_ask h l x e a stands works is = ap (λ hs. record { hosts = hs; conns = w.conns }) (at_alike h (λ z. step_lane s (host_plan plan h) z l (slice_get z.workers l)) (λ _. perform_lane s (host_plan plan h) x l a) w.hosts
+      (λ z q. ap (λ (u : Host). step_lane s (host_plan plan h) u l (slice_get u.workers l)) (some_is z x (sym q ∙ stands)) ∙ (ap (step_lane s (host_plan plan h) x l) works ∙ ap (perform_lane s (host_plan plan h) x l) is)))
+
+  one_worker : (x : Host) (l : ℕ) (e : Worker) (f : Worker → Worker) → slice_get x.workers l ≡ Some e → at l f x.workers ≡ set l (f e) x.workers
+  one_worker x l e f works = at_alike l f (λ _. f e) x.workers (λ z q. ap f (some_is z e (sym q ∙ works)))
 
   -- the line of a message that is dropped
   abbrev line_for : Rule → Waiting → LaneLine
@@ -225,29 +285,61 @@ module _ (s : Scheme) (plan : Plan) (w : World) where
       go (inl e) = grind arith
       go (inr t) = in_none _ t
 
-  each_framed : (d : Desk) (e : Worker) (v : Waiting) → Contains e.hand v → (r : Option Rule) → frame_rule s d v ≡ r → IfRuleFails r (λ rule. Contains (checked_lines s d e) (line_for rule v)) (Contains (still_good s d e.hand) v)
-  each_framed d e v c (Some rule) r = Contains-append_left (flat_map (λ u. dropped_line u (frame_rule s d u)) e.hand) (framed_line e.leaf (still_good s d e.hand)) (line_for rule v) (dropped_in d e.hand v rule c r)
+  -- of the messages in hand, those that pass
+  abbrev good : Desk → Worker → List Waiting
+  good d e = filter (λ u. passes (frame_rule s d u)) e.hand
+
+  -- and the lines of the others
+  abbrev printed : Desk → Worker → List LaneLine
+  printed d e = flat_map (λ u. dropped_line u (frame_rule s d u)) e.hand ++ framed_line e.leaf (good d e)
+
+  each_framed : (d : Desk) (e : Worker) (v : Waiting) → Contains e.hand v → (r : Option Rule) → frame_rule s d v ≡ r → ByFirst r (λ rule. Contains (printed d e) (line_for rule v)) (Contains (good d e) v)
+  each_framed d e v c (Some rule) r = Contains-append_left (flat_map (λ u. dropped_line u (frame_rule s d u)) e.hand) (framed_line e.leaf (good d e)) (line_for rule v) (dropped_in d e.hand v rule c r)
   each_framed d e v c None r = filter_in (λ u. passes (frame_rule s d u)) e.hand v c (ap passes r)
+
+  framed_some : (lane : LanePlan) (e : Worker) (ms : List Waiting) → ms ≢ [] → ((with_frame s lane e ms).leaf ≡ suc e.leaf) × ((with_frame s lane e ms).stream ≡ e.stream ++ s.frame lane.signing e.leaf (map (λ v. v.message) ms))
+  framed_some lane e [] n = absurd (n refl)
+  framed_some lane e (m ∷ ms) n = (refl, refl)
+
+  framed_none : (lane : LanePlan) (e : Worker) (ms : List Waiting) → ms ≡ [] → ((with_frame s lane e ms).leaf ≡ e.leaf) × ((with_frame s lane e ms).stream ≡ e.stream)
+  framed_none lane e [] n = (refl, refl)
+  framed_none lane e (m ∷ ms) n = absurd (grind arith)
+
+  framed_hand : (lane : LanePlan) (e : Worker) (ms : List Waiting) → (with_frame s lane e ms).hand ≡ []
+  framed_hand lane e [] = refl
+  framed_hand lane e (m ∷ ms) = refl
 
   frames : (h l : ℕ) (x : Host) (e : Worker) (m : Waiting) (others : List Waiting) (log : List LaneLine) → slice_get w.hosts h ≡ Some x → slice_get x.workers l ≡ Some e → e.hand ≡ m ∷ others → slice_get x.logs l ≡ Some log → IsFramed s plan w h l x e log
   frames h l x e m others log stands works hand prints = record {
-    framed = still_good s x.desk e.hand;
-    lines = checked_lines s x.desk e;
-    worker = ap (λ (q : Option Host). onward q (λ u. slice_get u.workers l)) after ∙ changed l (checked_after_reply s (lane_plan (host_plan plan h) l) x.desk) x.workers e works;
-    log_after = ap (λ (q : Option Host). onward q (λ u. slice_get u.logs l)) after ∙ (changed l (lined (checked_in s x.desk (slice_get x.workers l))) x.logs log prints ∙ ap (λ o. Some (log ++ checked_in s x.desk o)) works);
-    each = λ v c. each_framed x.desk e v c (frame_rule s x.desk v) refl;
-    only = λ v c. let g : Contains e.hand v × (passes (frame_rule s x.desk v) ≡ true) = in_filter (λ u. passes (frame_rule s x.desk u)) e.hand v c in (g.0, passes_none (frame_rule s x.desk v) g.1);
-    no_more = λ rule sender slot c. no_more rule sender slot (Contains-append_cases (flat_map (λ u. dropped_line u (frame_rule s x.desk u)) e.hand) (framed_line e.leaf (still_good s x.desk e.hand)) (DroppedLine rule sender slot) c);
+    framed = good x.desk e;
+    lines = printed x.desk e;
+    told = with_frame s lane e (good x.desk e);
+    after = lane_after_ask h l x e (AsksRecheck e.hand) stands works asks
+        ∙ ap₂ (λ ws ls. with_host w h (record x { workers = ws; logs = ls }))
+        (one_worker x l e (checked_after_reply s lane (rechecked s x.desk e.hand)) works ∙ ap (λ ms. set l (with_frame s lane e ms) x.workers) (good_is s x.desk e.hand))
+        (at_alike l (lined (checked_in (rechecked s x.desk e.hand) (slice_get x.workers l))) (λ _. log ++ printed x.desk e) x.logs
+        (λ u q. ap₂ (λ ls o. ls ++ checked_in (rechecked s x.desk e.hand) o) (some_is u log (sym q ∙ prints)) works
+        ∙ ap₂ (λ ds ms. log ++ (ds ++ framed_line e.leaf ms)) (lines_are s x.desk e.hand) (good_is s x.desk e.hand)));
+    each = λ v c. by_same _ _ _ _ (releasing_is s x.desk v.message) (each_framed x.desk e v c (frame_rule s x.desk v) refl);
+    only = λ v c. let g : Contains e.hand v × (passes (frame_rule s x.desk v) ≡ true) = in_filter (λ u. passes (frame_rule s x.desk u)) e.hand v c in (g.0, releasing_is s x.desk v.message ∙ passes_none (frame_rule s x.desk v) g.1);
+    no_more = λ rule sender slot c. let o : Dropped x.desk e.hand rule sender slot = no_more rule sender slot (Contains-append_cases (flat_map (λ u. dropped_line u (frame_rule s x.desk u)) e.hand) (framed_line e.leaf (good x.desk e)) (DroppedLine rule sender slot) c) in
+        (o.0, o.1, releasing_is s x.desk o.0.message ∙ o.2, o.3, o.4);
+    hand = framed_hand lane e (good x.desk e);
+    some = framed_some lane e (good x.desk e);
+    none = framed_none lane e (good x.desk e);
   }
     where
-      after : slice_get (step s plan w (Frame h l)).hosts h ≡ Some (perform_lane s (host_plan plan h) x l AsksRecheck)
-      after = frame_after s plan w h l x e AsksRecheck stands works (checks (lane_plan (host_plan plan h) l) e m others hand)
+      lane : LanePlan
+      lane = lane_plan (host_plan plan h) l
 
-      no_more : (rule : Rule) (sender slot : ℕ) → Contains (flat_map (λ u. dropped_line u (frame_rule s x.desk u)) e.hand) (DroppedLine rule sender slot) ⊎ Contains (framed_line e.leaf (still_good s x.desk e.hand)) (DroppedLine rule sender slot) → Dropped x.desk e.hand rule sender slot
+      asks : lane_ask s lane e ≡ AsksRecheck e.hand
+      asks = ap (lane_ask_hand s lane e) hand ∙ ap AsksRecheck (sym hand)
+
+      no_more : (rule : Rule) (sender slot : ℕ) → Contains (flat_map (λ u. dropped_line u (frame_rule s x.desk u)) e.hand) (DroppedLine rule sender slot) ⊎ Contains (framed_line e.leaf (good x.desk e)) (DroppedLine rule sender slot) → Dropped x.desk e.hand rule sender slot
       no_more rule sender slot (inl c) = in_dropped x.desk e.hand rule sender slot c
-      no_more rule sender slot (inr c) = absurd (no_framed_line e.leaf (still_good s x.desk e.hand) rule sender slot c)
+      no_more rule sender slot (inr c) = absurd (no_framed_line e.leaf (good x.desk e) rule sender slot c)
 
-  waits : (h l : ℕ) (x : Host) (e : Worker) → slice_get w.hosts h ≡ Some x → slice_get x.workers l ≡ Some e → e.hand ≡ [] → s.has_leaf (lane_plan (host_plan plan h) l).signing e.leaf ≡ false → step s plan w (Frame h l) ≡ w
+  waits : (h l : ℕ) (x : Host) (e : Worker) → slice_get w.hosts h ≡ Some x → slice_get x.workers l ≡ Some e → e.hand ≡ [] → s.has_lane_leaf (lane_plan (host_plan plan h) l).signing e.leaf ≡ false → step s plan w (Frame h l) ≡ w
   waits h l x e stands works hand spent = ap (λ hs. record { hosts = hs; conns = w.conns }) (at_still h (λ x'. step_lane s (host_plan plan h) x' l (slice_get x'.workers l)) w.hosts still)
     where
       asks : lane_ask s (lane_plan (host_plan plan h) l) e ≡ WorkerWaits
@@ -262,32 +354,52 @@ module _ (s : Scheme) (plan : Plan) (w : World) where
   parted [] = (refl, refl)
   parted (m ∷ q) = (take-append-drop (min frame_limit (length (m ∷ q))) (m ∷ q), let long : length (take (min frame_limit (length (m ∷ q))) (m ∷ q)) ≡ min (min frame_limit (length (m ∷ q))) (length (m ∷ q)) = length-take (min frame_limit (length (m ∷ q))) (m ∷ q) in omega (arith, long))
 
-  lifts : (h l : ℕ) (x : Host) (e : Worker) (q : Queue) → slice_get w.hosts h ≡ Some x → slice_get x.workers l ≡ Some e → slice_get x.queues l ≡ Some q → e.hand ≡ [] → s.has_leaf (lane_plan (host_plan plan h) l).signing e.leaf ≡ true →
+  lifts : (h l : ℕ) (x : Host) (e : Worker) (q : Queue) → slice_get w.hosts h ≡ Some x → slice_get x.workers l ≡ Some e → slice_get x.queues l ≡ Some q → e.hand ≡ [] → s.has_lane_leaf (lane_plan (host_plan plan h) l).signing e.leaf ≡ true →
       (first : Queue) × (rest : Queue) × (q ≡ first ++ rest) × (length first ≡ min 16 (length q))
-      × (thing (step s plan w (Frame h l)) h (λ u. u.workers) l ≡ Some (record e { hand = first })) × (thing (step s plan w (Frame h l)) h (λ u. u.queues) l ≡ Some rest)
+      × (step s plan w (Frame h l) ≡ with_host w h (record x { queues = set l rest x.queues; workers = set l (record e { hand = first }) x.workers }))
   lifts h l x e q stands works queued hand ready = (
     front q,
     lifted q,
     sym (parted q).0,
     (parted q).1,
-    ap (λ (o : Option Host). onward o (λ u. slice_get u.workers l)) after ∙ (changed l (lifted_after_reply (front_of (slice_get x.queues l))) x.workers e works ∙ ap (λ o. Some (lifted_after_reply (front_of o) e)) queued),
-    ap (λ (o : Option Host). onward o (λ u. slice_get u.queues l)) after ∙ changed l lifted x.queues q queued,
+    lane_after_ask h l x e Lifts stands works (ap (lane_ask_hand s (lane_plan (host_plan plan h) l) e) hand ∙ ap (λ b. cond b Lifts WorkerWaits) ready)
+        ∙ ap₂ (λ qs ws. with_host w h (record x { queues = qs; workers = ws }))
+        (at_alike l lifted (λ _. lifted q) x.queues (λ u c. ap lifted (some_is u q (sym c ∙ queued))))
+        (one_worker x l e (lifted_after_reply (front_of (slice_get x.queues l))) works ∙ ap (λ o. set l (lifted_after_reply (front_of o) e) x.workers) queued),
   )
-    where
-      after : slice_get (step s plan w (Frame h l)).hosts h ≡ Some (perform_lane s (host_plan plan h) x l Lifts)
-      after = frame_after s plan w h l x e Lifts stands works (ap (lane_ask_hand s (lane_plan (host_plan plan h) l) e) hand ∙ ap (λ b. cond b Lifts WorkerWaits) ready)
 
   pub frame_checked : FrameChecked s plan w
-  frame_checked = record { judges = frames; waits = waits; lifts = lifts }
+  frame_checked = record {
+    judges = λ h l x e m others log is hand prints. frames h l x e m others log is.stands is.works hand prints;
+    waits = λ h l x e is hand spent. waits h l x e is.stands is.works hand spent;
+    lifts = λ h l x e q is queued hand ready. lifts h l x e q is.stands is.works queued hand ready;
+  }
 
   -- CONNECTIONS
 
   module _ (k : ℕ) (x : Host) (y : Conn) (lane : LaneCert) (open' : IsOpen s plan w k x y lane) where
+    abbrev r : ℕ
+    r = (conn_plan plan k).host
+
     abbrev here : HostPlan
-    here = host_plan plan (conn_plan plan k).host
+    here = host_plan plan r
 
     abbrev bytes : List ℕ
     bytes = arrived w (conn_plan plan k).source y
+
+    -- the world after the connection asked
+    after_conn : (asks : Conn → ConnAsk) (a : ConnAsk) → asks y ≡ a → step_conn s plan w r k asks (slice_get w.hosts r) (slice_get w.conns k) ≡ with_conn (with_host w r (perform_conn s here x y a).host) k (perform_conn s here x y a).conn
+    after_conn asks a is = ap₂ (λ o q. step_conn s plan w r k asks o q) open'.stands open'.here ∙ ap (λ b. with_ends w r k (perform_conn s here x y b)) is
+
+    accept_is : (a : ConnAsk) → accept s here y bytes ≡ a → step s plan w (Accept k) ≡ with_conn (with_host w r (perform_conn s here x y a).host) k (perform_conn s here x y a).conn
+    accept_is a is = after_conn (λ conn. accept s here conn (arrived w (conn_plan plan k).source conn)) a is
+
+    deliver_is : (a : ConnAsk) → deliver s here y bytes ≡ a → step s plan w (Deliver k) ≡ with_conn (with_host w r (perform_conn s here x y a).host) k (perform_conn s here x y a).conn
+    deliver_is a is = after_conn (λ conn. deliver s here conn (arrived w (conn_plan plan k).source conn)) a is
+
+    -- the host as it was
+    same_host : (z : Conn) → with_conn (with_host w r x) k z ≡ with_conn w k z
+    same_host z = ap (λ hs. record { hosts = hs; conns = set k z w.conns }) (at_still r (λ _. x) w.hosts (λ u e. some_is x u (sym open'.stands ∙ e)))
 
     accepts_frame : (i number : ℕ) (messages : List Message) → y.hand ≡ [] → y.passed ≡ None → y.failed ≡ None → slice_get (s.items here.key here.inlets bytes) y.taken ≡ Some (Framed number messages) → inlet_of here lane ≡ Some i →
         accept s here y bytes ≡ AsksInlet i number (fresh_frame y number messages) (stale_frame y number)
@@ -300,40 +412,57 @@ module _ (s : Scheme) (plan : Plan) (w : World) where
         ∙ ap (take_frame y number messages) inlet))))
 
     number_by : (i number : ℕ) (messages : List Message) (last : Inlet) → slice_get x.inlets i ≡ Some last → accept s here y bytes ≡ AsksInlet i number (fresh_frame y number messages) (stale_frame y number) → (c : Bool) → is_fresh number last ≡ c →
-        IfRuleFails (unless c Stale)
-        (λ rule. (slice_get (step s plan w (Accept k)).conns k ≡ Some (stale_frame y number)) × (thing (step s plan w (Accept k)) (conn_plan plan k).host (λ u. u.inlets) i ≡ Some last))
-        ((slice_get (step s plan w (Accept k)).conns k ≡ Some (fresh_frame y number messages)) × (thing (step s plan w (Accept k)) (conn_plan plan k).host (λ u. u.inlets) i ≡ Some (Some number)))
-    number_by i number messages last counts is c r = go c r
+        IfRuleFails (unless c Stale ∷ [])
+        (λ rule. step s plan w (Accept k) ≡ with_conn w k (stale_frame y number))
+        (step s plan w (Accept k) ≡ with_conn (with_host w r (record x { inlets = set i (Some number) x.inlets })) k (fresh_frame y number messages))
+    number_by i number messages last counts is = go
       where
-        conn : slice_get (step s plan w (Accept k)).conns k ≡ Some (if is_fresh number last then fresh_frame y number messages else stale_frame y number)
-        conn = accept_after s plan w k x y open'.stands open'.here (AsksInlet i number (fresh_frame y number messages) (stale_frame y number)) is ∙ ap (λ o. Some (if fresh_in number o then fresh_frame y number messages else stale_frame y number)) counts
+        both : Inlet → Conn → World
+        both inlet z = with_conn (with_host w r (record x { inlets = set i inlet x.inlets })) k z
 
-        inlet : thing (step s plan w (Accept k)) (conn_plan plan k).host (λ u. u.inlets) i ≡ Some (inlet_after (if is_fresh number last then Fresh number else entries.Stale number) last)
-        inlet = ap (λ (q : Option Host). onward q (λ u. slice_get u.inlets i)) (accept_end s plan w k x y open'.stands open'.here (AsksInlet i number (fresh_frame y number messages) (stale_frame y number)) is) ∙ changed i (numbered number) x.inlets last counts
+        after : step s plan w (Accept k) ≡ both (inlet_after (if is_fresh number last then Fresh number else entries.Stale number) last) (if is_fresh number last then fresh_frame y number messages else stale_frame y number)
+        after = accept_is (AsksInlet i number (fresh_frame y number messages) (stale_frame y number)) is
+            ∙ ap₂ (λ inlets z. with_conn (with_host w r (record x { inlets = inlets })) k z)
+            (at_alike i (numbered number) (λ _. numbered number last) x.inlets (λ u e. ap (numbered number) (some_is u last (sym e ∙ counts))))
+            (ap (λ o. if fresh_in number o then fresh_frame y number messages else stale_frame y number) counts)
 
         go : (c : Bool) → is_fresh number last ≡ c →
-            IfRuleFails (unless c Stale)
-            (λ rule. (slice_get (step s plan w (Accept k)).conns k ≡ Some (stale_frame y number)) × (thing (step s plan w (Accept k)) (conn_plan plan k).host (λ u. u.inlets) i ≡ Some last))
-            ((slice_get (step s plan w (Accept k)).conns k ≡ Some (fresh_frame y number messages)) × (thing (step s plan w (Accept k)) (conn_plan plan k).host (λ u. u.inlets) i ≡ Some (Some number)))
-        go true r = (conn ∙ ap (λ b. Some (if b then fresh_frame y number messages else stale_frame y number)) r, inlet ∙ ap (λ b. Some (inlet_after (if b then Fresh number else entries.Stale number) last)) r)
-        go false r = (conn ∙ ap (λ b. Some (if b then fresh_frame y number messages else stale_frame y number)) r, inlet ∙ ap (λ b. Some (inlet_after (if b then Fresh number else entries.Stale number) last)) r)
+            IfRuleFails (unless c Stale ∷ [])
+            (λ rule. step s plan w (Accept k) ≡ with_conn w k (stale_frame y number))
+            (step s plan w (Accept k) ≡ both (Some number) (fresh_frame y number messages))
+        go true e = after ∙ ap (λ c. both (inlet_after (if c then Fresh number else entries.Stale number) last) (if c then fresh_frame y number messages else stale_frame y number)) e
+        go false e = after ∙ (ap (λ c. both (inlet_after (if c then Fresh number else entries.Stale number) last) (if c then fresh_frame y number messages else stale_frame y number)) e
+            ∙ (ap (λ inlets. with_conn (with_host w r (record x { inlets = inlets })) k (stale_frame y number)) (at_still i (λ _. last) x.inlets (λ u e'. some_is last u (sym counts ∙ e')))
+            ∙ same_host (stale_frame y number)))
+
+    above : (number : ℕ) (last : Inlet) → is_above number last ≡ is_fresh number last
+    above number None = refl
+    above number (Some old) = refl
 
     delivers_to : deliver s here y bytes ≡ deliver_to here y lane y.hand y.passed
     delivers_to = ap (λ b. cond b ConnWaits (deliver_from here y (peer s here bytes))) open'.runs ∙ ap (deliver_from here y) open'.hello
 
-    delivery_by : (m : Message) (others : List Message) → deliver s here y bytes ≡ AsksArrival lane m others → (r : Option Rule) → judge_delivery s here x.desk lane m ≡ r →
-        IfRuleFails r
-        (λ rule. slice_get (step s plan w (Deliver k)).conns k ≡ Some (record y { hand = others; lines = y.lines ++ DropLine rule m.slot ∷ [] }))
-        (slice_get (step s plan w (Deliver k)).conns k ≡ Some (record y { hand = others; passed = Some (passed_of lane m); lines = y.lines ++ PassLine m.slot ∷ [] }))
-    delivery_by m others is (Some rule) r = deliver_after s plan w k x y open'.stands open'.here (AsksArrival lane m others) is ∙ ap (λ o. Some (delivery_after_reply lane m others o y)) r
-    delivery_by m others is None r = deliver_after s plan w k x y open'.stands open'.here (AsksArrival lane m others) is ∙ ap (λ o. Some (delivery_after_reply lane m others o y)) r
+    delivery_by : (m : Message) (others : List Message) → deliver s here y bytes ≡ AsksArrival lane m others → (q : Option Rule) → judge_delivery s here x.desk lane m ≡ q →
+        ByFirst q
+        (λ rule. step s plan w (Deliver k) ≡ with_conn w k (record y { hand = others; lines = y.lines ++ DropLine rule m.slot ∷ [] }))
+        (step s plan w (Deliver k) ≡ with_conn w k (record y { hand = others; passed = Some (passed_of lane m); lines = y.lines ++ PassLine m.slot ∷ [] }))
+    delivery_by m others is (Some rule) q = deliver_is (AsksArrival lane m others) is ∙ (same_host (delivery_after_reply lane m others (judge_delivery s here x.desk lane m) y) ∙ ap (λ o. with_conn w k (delivery_after_reply lane m others o y)) q)
+    delivery_by m others is None q = deliver_is (AsksArrival lane m others) is ∙ (same_host (delivery_after_reply lane m others (judge_delivery s here x.desk lane m) y) ∙ ap (λ o. with_conn w k (delivery_after_reply lane m others o y)) q)
 
     puts_passed : (b : ℕ) (p : Passed) → y.passed ≡ Some p → box_of here p.slot ≡ Some b → deliver s here y bytes ≡ PutsPassed b p.mail (record y { passed = None })
     puts_passed b p passed box = delivers_to ∙ (ap (deliver_to here y lane y.hand) passed ∙ ap (put_passed y p.mail) box)
 
-    passed_room : (b : ℕ) (p : Passed) → deliver s here y bytes ≡ PutsPassed b p.mail (record y { passed = None }) → FindsRoom s plan w (conn_plan plan k).host b x (step s plan w (Deliver k)) p.mail
-    passed_room b p is = box_room s plan w (conn_plan plan k).host x (step s plan w (Deliver k)) p.mail b (perform_conn s here x y (PutsPassed b p.mail (record y { passed = None }))).host
-        (deliver_end s plan w k x y open'.stands open'.here (PutsPassed b p.mail (record y { passed = None })) is) refl
+    passed_room : (b : ℕ) (p : Passed) (z : Mailbox) → slice_get x.boxes b ≡ Some z → deliver s here y bytes ≡ PutsPassed b p.mail (record y { passed = None }) →
+        IfRuleFails (unless (nat_lt (length z.waiting) (box_plan here b).room) BoxFull ∷ [])
+        (λ rule. step s plan w (Deliver k) ≡ with_conn (with_host w r (record x { boxes = set b (found_full p.mail z) x.boxes })) k (record y { passed = None }))
+        (step s plan w (Deliver k) ≡ with_conn (with_host w r (record x { boxes = set b (put_into p.mail z) x.boxes })) k (record y { passed = None }))
+    passed_room b p z there is = by_rule (first_rule (unless (nat_lt (length z.waiting) (box_plan here b).room) BoxFull ∷ [])) (λ rule e. after ∙ ap boxed e) (λ e. after ∙ ap boxed e) (room_is (box_plan here b).room b p.mail x.boxes z there)
+      where
+        boxed : List Mailbox → World
+        boxed boxes = with_conn (with_host w r (record x { boxes = boxes })) k (record y { passed = None })
+
+        after : step s plan w (Deliver k) ≡ boxed (at b (put (box_plan here b).room p.mail) x.boxes)
+        after = deliver_is (PutsPassed b p.mail (record y { passed = None })) is
 
   -- a connection that is busy takes nothing
   busy : (k : ℕ) (x : Host) (y : Conn) (lane : LaneCert) → IsOpen s plan w k x y lane → (y.hand ≢ []) ⊎ (y.passed ≢ None) → step s plan w (Accept k) ≡ w
@@ -345,7 +474,7 @@ module _ (s : Scheme) (plan : Plan) (w : World) where
       asks : Conn → ConnAsk
       asks conn = accept s (host_plan plan (conn_plan plan k).host) conn (arrived w (conn_plan plan k).source conn)
 
-      free : (hand : List Message) (passed : Option Message) → (hand ≢ []) ⊎ (passed ≢ None) → accept_free s (host_plan plan (conn_plan plan k).host) y (arrived w (conn_plan plan k).source y) hand passed y.failed ≡ ConnWaits
+      free : (hand : List Message) (passed : Option Passed) → (hand ≢ []) ⊎ (passed ≢ None) → accept_free s (host_plan plan (conn_plan plan k).host) y (arrived w (conn_plan plan k).source y) hand passed y.failed ≡ ConnWaits
       free [] None (inl n) = absurd (n refl)
       free [] None (inr n) = absurd (n refl)
       free [] (Some m) n = refl
@@ -357,17 +486,18 @@ module _ (s : Scheme) (plan : Plan) (w : World) where
   pub arrival_checked : ArrivalChecked s plan w
   arrival_checked = record {
     waits = busy;
-    takes = λ k i number x y lane messages last is hand passed failed item inlet counts. number_by k x y lane is i number messages last counts (accepts_frame k x y lane is i number messages hand passed failed item inlet) (is_fresh number last) refl;
-    judges = λ k x y lane m others is hand passed. delivery_by k x y lane is m others (delivers_to k x y lane is ∙ ap₂ (λ ms o. deliver_to (host_plan plan (conn_plan plan k).host) y lane ms o) hand passed) (judge_delivery s (host_plan plan (conn_plan plan k).host) x.desk lane m) refl;
+    takes = λ k i number x y lane messages last is hand passed failed item inlet counts. by_same _ _ _ _ (ap (λ c. first_rule (unless c Stale ∷ [])) (above k x y lane is number last))
+        (number_by k x y lane is i number messages last counts (accepts_frame k x y lane is i number messages hand passed failed item inlet) (is_fresh number last) refl);
+    judges = λ k x y lane m others is hand passed. by_same _ _ _ _ (delivery_is s (host_plan plan (conn_plan plan k).host) x.desk lane m)
+        (delivery_by k x y lane is m others (delivers_to k x y lane is ∙ ap₂ (λ ms o. deliver_to (host_plan plan (conn_plan plan k).host) y lane ms o) hand passed) (judge_delivery s (host_plan plan (conn_plan plan k).host) x.desk lane m) refl);
   }
 
   pub box_checked : BoxChecked s plan w
   box_checked = record {
-    judges = λ h p x y host slot reg label own clear m is says mine. here_by h p x y is.stands is.acts m (send_rule (host_plan plan h) y m) (judge_box (host_plan plan h) m.slot m.label) refl refl
-        (asks_send h p x y host slot reg label own clear m is says ∙ ap (λ b. cond b (send_here (host_plan plan h) y m (send_rule (host_plan plan h) y m) (judge_box (host_plan plan h) m.slot m.label)) (send_away y m (send_rule (host_plan plan h) y m))) mine);
-    puts = λ k b x y lane p is passed box.
-        let asks : deliver s (host_plan plan (conn_plan plan k).host) y (arrived w (conn_plan plan k).source y) ≡ PutsPassed b p.mail (record y { passed = None }) = puts_passed k x y lane is b p passed box in
-        (deliver_after s plan w k x y is.stands is.here (PutsPassed b p.mail (record y { passed = None })) asks, passed_room k x y lane is b p asks);
+    judges = λ h p x y to slot reg label own clear m is says mine. by_same _ _ _ _ (here_is (host_plan plan h) y m)
+        (here_by h p x y is.stands is.acts m (send_rule (host_plan plan h) y m) (judge_box (host_plan plan h) m.slot m.label) refl refl
+        (asks_send h p x y to slot reg label own clear m is says ∙ ap (λ b. cond b (send_here (host_plan plan h) y m (send_rule (host_plan plan h) y m) (judge_box (host_plan plan h) m.slot m.label)) (send_away y m (send_rule (host_plan plan h) y m))) mine));
+    puts = λ k b x y lane p z is passed box there. passed_room k x y lane is b p z there (puts_passed k x y lane is b p passed box);
   }
 
 pub each_checked : EachChecked

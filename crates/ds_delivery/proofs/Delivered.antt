@@ -1,23 +1,24 @@
 -- Delivered only where the rules hold.
-use Rattle.std.proofs.Common.{◌≡◌, ℕ, zero, suc, Bool, true, List, [], ◌∷◌, ◌++◌, Option, Some, None, slice_get, take, map, Contains, refl, sym, ◌∙◌, ap, subst, ◌⊎◌, inl, inr, arith, append_assoc}
+use Rattle.std.proofs.Common.{◌≡◌, ℕ, zero, suc, Bool, true, List, [], ◌∷◌, ◌++◌, Option, Some, None, slice_get, take, map, length, Contains, refl, sym, ◌∙◌, ap, subst, ◌⊎◌, inl, inr, arith, append_assoc}
 use Rattle.ds_cert.specs.declared.lane.LaneCert.{LaneCert}
 use Rattle.ds_msg.specs.declared.message.Message.{Message}
 use Rattle.ds_model.specs.Scheme.{Scheme, Item, Hello, Framed}
-use Rattle.ds_model.specs.Plan.{HostPlan, LanePlan, Plan, Source, OfLane, host_plan, conn_plan, lane_plan}
+use Rattle.ds_model.specs.Plan.{HostPlan, LanePlan, Plan, Source, OfLane, IsLane, host_plan, conn_plan, lane_plan}
 use Rattle.ds_model.specs.World.{Waiting, Worker, Conn, Host, World, Passed}
+use Rattle.ds_model.specs.Setup.{IsSetup}
 use Rattle.ds_model.specs.ConnectionStep.{hello_of, passed_of}
-use Rattle.ds_model.specs.Step.{Event, stream_from, worker_at, arrived, run}
-use Rattle.ds_model.specs.Lawful.{Past, PutsFrom, JudgedFrom, TakenFrom, FramedOn, SentBy, WroteFrame, OwnFrom, RulesFrom}
+use Rattle.ds_model.specs.Step.{Event, stream_from, worker_at, lane_stream, arrived, run}
+use Rattle.ds_model.specs.Lawful.{Past, PutsFrom, JudgedFrom, TakenFrom, FramedOn, SentBy, Wrote, OwnFrom, RulesFrom}
 use Rattle.ds_model.proofs.Places.{none_some, some_is}
 use Rattle.ds_model.proofs.Sends.{sent_lawfully}
-use Rattle.ds_delivery.specs.Premises.{Written, stream_with, items_with, CanBeWritten, IsReadable, AtSetup, Spells}
+use Rattle.ds_delivery.specs.Premises.{Written, stream_with, items_with, CanBeWritten, IsReadable, Spells}
 use Rattle.ds_delivery.specs.Delivered.{DeliveredLawfully}
 use Rattle.ds_delivery.proofs.Lists.{in_none, in_cases, in_map}
 use Rattle.ds_model.specs.ExporterRules.{sender_rule}
-use Rattle.ds_model.specs.ProcessStep.{box_of, mail_of}
+use Rattle.ds_model.specs.ProcessStep.{box_of}
 use Rattle.ds_model.specs.ConnectionStep.{ConnAsk, PutsPassed, deliver}
 use Rattle.ds_delivery.proofs.Conns.{HandFacts, DeliverFacts, deliver_facts}
-use Rattle.ds_delivery.proofs.Kept.{IsWhole, QueuedBefore, KeptWorker}
+use Rattle.ds_delivery.proofs.Kept.{IsWhole, QueuedBefore, WasFramed, KeptWorker}
 use Rattle.ds_delivery.proofs.KeptConns.{IsPassed}
 use Rattle.ds_delivery.proofs.Runs.{Kept, all_kept}
 
@@ -55,7 +56,12 @@ item_framed lane frames number messages c = go (in_cases (Hello lane.cert) (map 
     go (inr t) = let m : (f : Written) × Contains frames f × (Framed f.number f.messages ≡ Framed number messages) = in_map (λ f. Framed f.number f.messages) frames (Framed number messages) t in
         (m.0, m.1, framed_number m.0.number number m.0.messages messages m.2, framed_messages m.0.number number m.0.messages messages m.2)
 
-module _ (s : Scheme) (has_spelling : Message → Bool) (plan : Plan) (start : World) (is : IsReadable s has_spelling plan) (setup : AtSetup s plan start) where
+-- all of a list
+take_all : (xs : List ℕ) → take (length xs) xs ≡ xs
+take_all [] = refl
+take_all (x ∷ xs) = ap (λ ys. x ∷ ys) (take_all xs)
+
+module _ (s : Scheme) (has_spelling : Message → Bool) (plan : Plan) (start : World) (is : IsReadable s has_spelling plan) (setup : IsSetup s plan start) where
   kept : (done : List Event) → Kept s has_spelling plan start is done (run s plan start done)
   kept = all_kept s has_spelling plan start is setup
 
@@ -66,14 +72,14 @@ module _ (s : Scheme) (has_spelling : Message → Bool) (plan : Plan) (start : W
       subst (λ n. QueuedBefore s plan start h l n b) w.2 ((((kept b).hosts h f.host f.stands).workers l f.worker f.works).hand w.0 w.1)
 
   -- a message of a frame that a lane wrote was sent so
-  wrote_sent : (h l number : ℕ) (messages : List Message) (m : Message) (events : List Event) → WroteFrame s plan start h l number messages events → Contains messages m → SentBy s plan start h l number messages m events
-  wrote_sent h l number messages m events (b, e, after, split, wrote) c = (b, e, after, split, (wrote, framed_queued h l number messages m b e wrote c))
+  framed_sent : (h l number : ℕ) (messages : List Message) (m : Message) (events : List Event) → WasFramed s plan start h l number messages events → Contains messages m → SentBy s plan start h l number messages m events
+  framed_sent h l number messages m events (b, e, after, split, wrote) c = (b, e, after, split, (wrote, framed_queued h l number messages m b e wrote c))
 
   spells_front : (events front back : List Event) → events ≡ front ++ back → Spells s has_spelling plan start events → Spells s has_spelling plan start front
   spells_front events front back split spells before later eq = spells before (later ++ back) (split ∙ (ap (λ xs. xs ++ back) eq ∙ append_assoc before later back))
 
   -- a frame that a lane wrote can be written
-  wrote_can : (h l : ℕ) (f : Written) (events : List Event) → Spells s has_spelling plan start events → IsWhole s (lane_plan (host_plan plan h) l) f → WroteFrame s plan start h l f.number f.messages events → CanBeWritten s has_spelling (lane_plan (host_plan plan h) l) f
+  wrote_can : (h l : ℕ) (f : Written) (events : List Event) → Spells s has_spelling plan start events → IsWhole s (lane_plan (host_plan plan h) l) f → WasFramed s plan start h l f.number f.messages events → CanBeWritten s has_spelling (lane_plan (host_plan plan h) l) f
   wrote_can h l f events spells whole (b, e, after, split, framed) = record { leaf = whole.leaf; some = whole.some; most = whole.most; each = λ m c. spelled m (framed_queued h l f.number f.messages m b e framed c) }
     where
       spelled : (m : Message) → QueuedBefore s plan start h l m b → has_spelling m ≡ true
@@ -85,7 +91,7 @@ module _ (s : Scheme) (has_spelling : Message → Bool) (plan : Plan) (start : W
     pub many : ℕ
     pub stream : bytes ≡ take many (stream_with s (lane_plan (host_plan plan h) l) frames)
     pub whole : (f : Written) → Contains frames f → IsWhole s (lane_plan (host_plan plan h) l) f
-    pub wrote : (f : Written) → Contains frames f → WroteFrame s plan start h l f.number f.messages events
+    pub wrote : (f : Written) → Contains frames f → WasFramed s plan start h l f.number f.messages events
 
   worker_streams : (events : List Event) (h l n : ℕ) (o : Option Worker) → ((e : Worker) → o ≡ Some e → KeptWorker s plan start events h l e) → Streams events h l n (take n (stream_from o))
   worker_streams events h l n None k = record { frames = []; many = 0; stream = none n; whole = λ f c. absurd (in_none f c); wrote = λ f c. absurd (in_none f c) }
@@ -120,7 +126,18 @@ module _ (s : Scheme) (has_spelling : Message → Bool) (plan : Plan) (start : W
       sent : SentBy s plan start h l number messages m events
       sent =
           let f : (g : Written) × Contains st.frames g × (g.number ≡ number) × (g.messages ≡ messages) = item_framed (lane_plan (host_plan plan h) l) st.frames number messages (read taken.conn.taken (Framed number messages) taken.item) in
-          wrote_sent h l number messages m events (subst (λ ms. WroteFrame s plan start h l number ms events) f.3 (subst (λ n. WroteFrame s plan start h l n f.0.messages events) f.2 (st.wrote f.0 f.1))) c
+          framed_sent h l number messages m events (subst (λ ms. WasFramed s plan start h l number ms events) f.3 (subst (λ n. WasFramed s plan start h l n f.0.messages events) f.2 (st.wrote f.0 f.1))) c
+
+  -- a frame that a lane wrote was sent so
+  written_sent : (events : List Event) → Spells s has_spelling plan start events → (h l : ℕ) → IsLane plan h l → (r number : ℕ) (messages : List Message) (m : Message) → Wrote s plan start h l r number messages events → Contains messages m → SentBy s plan start h l number messages m events
+  written_sent events spells h l real r number messages m (place, item) c =
+      let stream : List ℕ = lane_stream (run s plan start events) h l in
+      let st : Streams events h l (length stream) (take (length stream) stream) = worker_streams events h l (length stream) (worker_at (slice_get (run s plan start events).hosts h) l) (host_worker events h l (slice_get (run s plan start events).hosts h) refl) in
+      let here : HostPlan = host_plan plan r in
+      let read : slice_get (s.items here.key here.inlets (take st.many (stream_with s (lane_plan (host_plan plan h) l) st.frames))) place ≡ Some (Framed number messages) = subst (λ bytes. slice_get (s.items here.key here.inlets bytes) place ≡ Some (Framed number messages)) (sym (take_all stream) ∙ st.stream) item in
+      let f : (g : Written) × Contains st.frames g × (g.number ≡ number) × (g.messages ≡ messages) = item_framed (lane_plan (host_plan plan h) l) st.frames number messages
+      (is.own h l real st.frames (λ g in_frames. wrote_can h l g events spells (st.whole g in_frames) (st.wrote g in_frames)) here st.many place (Framed number messages) read) in
+      framed_sent h l number messages m events (subst (λ ms. WasFramed s plan start h l number ms events) f.3 (subst (λ n. WasFramed s plan start h l n f.0.messages events) f.2 (st.wrote f.0 f.1))) c
 
   rules_from : (before : List Event) (e : Event) → Spells s has_spelling plan start before → (k b : ℕ) (lane : LaneCert) (p : Passed) → PutsFrom s plan start k b lane p before e → RulesFrom s plan start k b lane p before
   rules_from before e spells k b lane p puts = record {
@@ -132,7 +149,7 @@ module _ (s : Scheme) (has_spelling : Message → Bool) (plan : Plan) (start : W
     among = old.among;
     place = found (deliver s (host_plan plan (conn_plan plan k).host) puts.conn (arrived (run s plan start before) (conn_plan plan k).source puts.conn)) (deliver_facts s (host_plan plan (conn_plan plan k).host) puts.conn (arrived (run s plan start before) (conn_plan plan k).source puts.conn)) puts.asks;
     judged = subst (λ c. Past before (λ b e. JudgedFrom s plan start k c old.m b e × Past b (λ b' e'. TakenFrom s plan start k c old.number old.messages b' e' × OwnFrom s plan start k c old.number old.messages old.m b'))) same (judged old.judged);
-    link = λ h l source real mine wrote. wrote_sent h l old.number old.messages old.m before wrote old.among;
+    link = λ h l source real mine wrote. written_sent before spells h l real (conn_plan plan k).host old.number old.messages old.m wrote old.among;
   }
     where
       old : IsPassed s has_spelling plan start is before k (arrived (run s plan start before) (conn_plan plan k).source puts.conn) p

@@ -10,11 +10,12 @@ use Rattle.ds_model.specs.Plan.{OfLane, IsLane, LanePlan, conn_plan, host_plan, 
 use Rattle.ds_cert.specs.declared.lane.LaneCert.{LaneCert}
 use Rattle.ds_model.specs.ConnectionStep.{hello_of}
 use Rattle.ds_model.specs.World.{Process, Queue, Worker, Conn, Host, World}
+use Rattle.ds_model.specs.Setup.{IsSetup}
 use Rattle.ds_model.specs.Step.{Event, step, run}
 use Rattle.ds_model.specs.Examples.OneHost.{only_key}
 use Rattle.ds_model.specs.Examples.TwoHosts.{letter, letter_lane, receiving, posting}
 use Rattle.ds_model.proofs.Places.{none_some, some_is}
-use Rattle.ds_delivery.specs.Premises.{Written, stream_with, items_with, CanBeWritten, IsReadable, AtSetup}
+use Rattle.ds_delivery.specs.Premises.{Written, stream_with, items_with, CanBeWritten, IsReadable}
 use Rattle.ds_delivery.specs.Example.{is_letter, letter_frames, letter_items, letter_scheme, two_ways, before_both, by_lane, by_link, PremisesHold}
 use Rattle.ds_delivery.proofs.Lists.{in_head, in_tail, map_in}
 
@@ -111,7 +112,7 @@ scheme = record {
 
 -- the start
 
-setup : AtSetup letter_scheme two_ways before_both
+setup : IsSetup letter_scheme two_ways before_both
 setup = record { conn_plans = conn_plans; procs = procs; queues = queues; workers = workers; conns = conns }
   where
     conn_plans : (k h l : ℕ) → (conn_plan two_ways k).source ≡ OfLane h l → IsLane two_ways h l

@@ -18,10 +18,11 @@ use Rattle.ds_model.specs.Lane.{Queued, QueueFull, lane_after, admit, front, lif
 use Rattle.ds_model.specs.Desk.{act_entry, reply_of}
 use Rattle.ds_model.specs.World.{Process, Mail, Waiting, Queue, Worker, Host, World}
 use Rattle.ds_model.specs.ProcessStep.{lane_of, Ask, Waits, Internal, Put, Admit, TakeFrom, PublicAct, AsksJudgement, ask, taken_after_reply, act_after_reply, judged_after_reply}
-use Rattle.ds_model.specs.WorkerStep.{lane_ask_hand, LaneAsk, WorkerWaits, Lifts, AsksRecheck, lane_ask, lifted_after_reply, checked_after_reply, with_frame, still_good, frame_rule, passes}
+use Rattle.ds_model.specs.WorkerStep.{lane_ask_hand, LaneAsk, WorkerWaits, Lifts, AsksRecheck, lane_ask, rechecked, lifted_after_reply, checked_after_reply, with_frame, still_good, frame_rule}
 use Rattle.ds_model.specs.Step.{Event, Step, Frame, oldest_in, judged, attached, perform, step_proc, front_of, perform_lane, step_lane, resolve, run}
-use Rattle.ds_model.specs.Lawful.{Past, QueuedOn, SentAway, FramedOn, WroteFrame}
+use Rattle.ds_model.specs.Lawful.{Past, QueuedOn, SentAway, FramedOn}
 use Rattle.ds_model.proofs.Places.{none_some, some_is, cond_case}
+use Rattle.ds_model.proofs.Rechecks.{passes, good_is}
 use Rattle.ds_delivery.specs.Premises.{Written, stream_with}
 use Rattle.ds_delivery.proofs.Lists.{all_at, in_none, in_head, in_take, in_drop, in_filter, in_map, in_empty}
 use Rattle.ds_delivery.proofs.Pasts.{past_more, past_now}
@@ -63,7 +64,7 @@ admit_joins room w q e = ap (λ b. lane_after (if b then Queued w else QueueFull
 
 -- a frame is one that a lane can write, but for the spelling of its messages
 pub record IsWhole (s : Scheme) (lane : LanePlan) (f : Written) : Type 0 where
-  pub leaf : s.has_leaf lane.signing f.number ≡ true
+  pub leaf : s.has_lane_leaf lane.signing f.number ≡ true
   pub some : f.messages ≢ []
   pub most : length f.messages ≤ frame_limit
 
@@ -90,6 +91,10 @@ module _ (s : Scheme) (plan : Plan) (start : World) where
   abbrev pub QueuedBefore : (host lane : ℕ) → Message → List Event → Type 0
   QueuedBefore h l m events = (p : ℕ) × Past events (λ b e. QueuedOn s plan start h l p m b e × Past b (λ b' e'. SentAway s plan start h p m b' e'))
 
+  -- framed by an event
+  abbrev pub WasFramed : (host lane number : ℕ) → List Message → List Event → Type 0
+  WasFramed h l number messages events = Past events (λ b e. FramedOn s plan start h l number messages b e)
+
   -- what is in a process's hand was judged
   abbrev pub KeptHand : List Event → (host proc : ℕ) → Process → Type 0
   KeptHand done h p y = (m : Message) → y.hand ≡ Some m → Past done (λ b e. SentAway s plan start h p m b e)
@@ -101,12 +106,12 @@ module _ (s : Scheme) (plan : Plan) (start : World) where
   -- so was what its worker has in hand, which finds a leaf; and its stream
   pub record KeptWorker (done : List Event) (h l : ℕ) (e : Worker) : Type 0 where
     pub hand : KeptQueue done h l e.hand
-    pub leaf : e.hand ≢ [] → s.has_leaf (lane_plan (host_plan plan h) l).signing e.leaf ≡ true
+    pub leaf : e.hand ≢ [] → s.has_lane_leaf (lane_plan (host_plan plan h) l).signing e.leaf ≡ true
     pub most : length e.hand ≤ frame_limit
     pub frames : List Written
     pub stream : e.stream ≡ stream_with s (lane_plan (host_plan plan h) l) frames
     pub whole : (f : Written) → Contains frames f → IsWhole s (lane_plan (host_plan plan h) l) f
-    pub wrote : (f : Written) → Contains frames f → WroteFrame s plan start h l f.number f.messages done
+    pub wrote : (f : Written) → Contains frames f → WasFramed h l f.number f.messages done
 
   pub record KeptHost (done : List Event) (h : ℕ) (x : Host) : Type 0 where
     pub hands : (p : ℕ) (y : Process) → slice_get x.procs p ≡ Some y → KeptHand done h p y
@@ -125,7 +130,7 @@ module _ (s : Scheme) (plan : Plan) (start : World) where
     queue_later : (h l : ℕ) (q : Queue) → KeptQueue done h l q → KeptQueue (done ++ ev ∷ []) h l q
     queue_later h l q k v c = queued_later h l v.message (k v c)
 
-    wrote_later : (h l : ℕ) (frames : List Written) → ((f : Written) → Contains frames f → WroteFrame s plan start h l f.number f.messages done) → (f : Written) → Contains frames f → WroteFrame s plan start h l f.number f.messages (done ++ ev ∷ [])
+    wrote_later : (h l : ℕ) (frames : List Written) → ((f : Written) → Contains frames f → WasFramed h l f.number f.messages done) → (f : Written) → Contains frames f → WasFramed h l f.number f.messages (done ++ ev ∷ [])
     wrote_later h l frames k f c = past_more done ev (λ b e. FramedOn s plan start h l f.number f.messages b e) (k f c)
 
     worker_later : (h l : ℕ) (e : Worker) → KeptWorker done h l e → KeptWorker (done ++ ev ∷ []) h l e
@@ -267,8 +272,45 @@ module _ (s : Scheme) (plan : Plan) (start : World) where
       -- the host after a lane worker's step
 
       module _ (l : ℕ) (now : resolve plan (run s plan start done) ev ≡ Frame h l) where
+        -- a worker whose hand was judged, and some of whose messages pass
+        module _ (e : Worker) (works : slice_get x.workers l ≡ Some e) (busy : e.hand ≢ []) (m : Waiting) (rest : List Waiting) (is : still_good (rechecked s x.desk e.hand) e.hand ≡ m ∷ rest) where
+          good : (v : Waiting) → Contains (m ∷ rest) v → Contains e.hand v × (frame_rule s x.desk v ≡ None)
+          good v c = let g : Contains e.hand v × (passes (frame_rule s x.desk v) ≡ true) = in_filter (λ w. passes (frame_rule s x.desk w)) e.hand v (subst (λ ms. Contains ms v) (sym is ∙ good_is s x.desk e.hand) c) in (g.0, passes_none (frame_rule s x.desk v) g.1)
+
+          each_good : (n : Message) → Contains (map (λ (w : Waiting). w.message) (m ∷ rest)) n → (w : Waiting) × Contains e.hand w × (w.message ≡ n) × (sender_rule s x.desk.addresses x.desk.store x.desk.moment n.to n.label ≡ None)
+          each_good n c =
+              let v : (w : Waiting) × Contains (m ∷ rest) w × (w.message ≡ n) = in_map (λ (w : Waiting). w.message) (m ∷ rest) n c in
+              let g : Contains e.hand v.0 × (frame_rule s x.desk v.0 ≡ None) = good v.0 v.1 in
+              (v.0, g.0, v.2, subst (λ (z : Message). sender_rule s x.desk.addresses x.desk.store x.desk.moment z.to z.label ≡ None) v.2 g.1)
+
+          asks : (hand : List Waiting) → (hand ≡ [] → ⊥) → lane_ask_hand s (lane_plan (host_plan plan h) l) e hand ≡ AsksRecheck hand
+          asks [] n = absurd (n refl)
+          asks (v ∷ vs) n = refl
+
+          pub framed_now : FramedOn s plan start h l e.leaf (map (λ w. w.message) (m ∷ rest)) done ev
+          framed_now = record {
+            host = x;
+            worker = e;
+            told = perform_lane s (host_plan plan h) x l (AsksRecheck e.hand);
+            event = now;
+            stands = there;
+            works = works;
+            counted = refl;
+            judged = each_good;
+            becomes = ap (λ (w : World). slice_get w.hosts h) (means_after s plan (run s plan start done) ev (Frame h l) now) ∙ frame_after s plan (run s plan start done) h l x e (AsksRecheck e.hand) there works (asks e.hand busy);
+            writes = changed l (checked_after_reply s (lane_plan (host_plan plan h) l) (rechecked s x.desk e.hand)) x.workers e works ∙ ap (λ ms. Some (with_frame s (lane_plan (host_plan plan h) l) e ms)) is;
+          }
+
+          long : length (map (λ (w : Waiting). w.message) (m ∷ rest)) ≤ length e.hand
+          long = subst (λ ms. length (map (λ (w : Waiting). w.message) ms) ≤ length e.hand) (sym (good_is s x.desk e.hand) ∙ is) (subst (λ n. n ≤ length e.hand) (sym (map_long (λ (w : Waiting). w.message) (filter (λ w. passes (frame_rule s x.desk w)) e.hand))) (filter_most (λ w. passes (frame_rule s x.desk w)) e.hand))
+
+          pub whole_now : IsWhole s (lane_plan (host_plan plan h) l) (record { number = e.leaf; messages = map (λ w. w.message) (m ∷ rest) })
+          whole_now =
+              let old : KeptWorker done h l e = kept.workers l e works in
+              record { leaf = old.leaf busy; some = λ none. in_empty (map (λ (w : Waiting). w.message) (m ∷ rest)) m.message none (in_head m.message _); most = let few : length e.hand ≤ frame_limit = old.most in omega (arith, long) }
+
         -- the worker after its hand was judged
-        frame_kept : (e : Worker) → slice_get x.workers l ≡ Some e → (e.hand ≢ []) → (good : List Waiting) → still_good s x.desk e.hand ≡ good → KeptWorker (done ++ ev ∷ []) h l (with_frame s (lane_plan (host_plan plan h) l) e good)
+        frame_kept : (e : Worker) → slice_get x.workers l ≡ Some e → (e.hand ≢ []) → (good : List Waiting) → still_good (rechecked s x.desk e.hand) e.hand ≡ good → KeptWorker (done ++ ev ∷ []) h l (with_frame s (lane_plan (host_plan plan h) l) e good)
         frame_kept e works busy [] is =
             let old : KeptWorker done h l e = kept.workers l e works in
             record { hand = λ v c. absurd (in_none v c); leaf = λ n. absurd (n refl); most = omega arith; frames = old.frames; stream = old.stream; whole = old.whole; wrote = wrote_later h l old.frames old.wrote }
@@ -285,46 +327,16 @@ module _ (s : Scheme) (plan : Plan) (start : World) where
               wrote = λ g c. each_wrote old f refl g (Contains-push_cases old.frames f g c);
             }
           where
-            good : (v : Waiting) → Contains (m ∷ rest) v → Contains e.hand v × (frame_rule s x.desk v ≡ None)
-            good v c = let g : Contains e.hand v × (passes (frame_rule s x.desk v) ≡ true) = in_filter (λ w. passes (frame_rule s x.desk w)) e.hand v (subst (λ ms. Contains ms v) (sym is) c) in (g.0, passes_none (frame_rule s x.desk v) g.1)
-
-            each_good : (n : Message) → Contains (map (λ (w : Waiting). w.message) (m ∷ rest)) n → (w : Waiting) × Contains e.hand w × (w.message ≡ n) × (sender_rule s x.desk.addresses x.desk.store x.desk.moment n.to n.label ≡ None)
-            each_good n c =
-                let v : (w : Waiting) × Contains (m ∷ rest) w × (w.message ≡ n) = in_map (λ (w : Waiting). w.message) (m ∷ rest) n c in
-                let g : Contains e.hand v.0 × (frame_rule s x.desk v.0 ≡ None) = good v.0 v.1 in
-                (v.0, g.0, v.2, subst (λ (z : Message). sender_rule s x.desk.addresses x.desk.store x.desk.moment z.to z.label ≡ None) v.2 g.1)
-
-            asks : (hand : List Waiting) → (hand ≡ [] → ⊥) → lane_ask_hand s (lane_plan (host_plan plan h) l) e hand ≡ AsksRecheck
-            asks [] n = absurd (n refl)
-            asks (v ∷ vs) n = refl
-
-            framed : FramedOn s plan start h l e.leaf (map (λ w. w.message) (m ∷ rest)) done ev
-            framed = record {
-              host = x;
-              worker = e;
-              told = perform_lane s (host_plan plan h) x l AsksRecheck;
-              event = now;
-              stands = there;
-              works = works;
-              counted = refl;
-              judged = each_good;
-              becomes = ap (λ (w : World). slice_get w.hosts h) (means_after s plan (run s plan start done) ev (Frame h l) now) ∙ frame_after s plan (run s plan start done) h l x e AsksRecheck there works (asks e.hand busy);
-              writes = changed l (checked_after_reply s (lane_plan (host_plan plan h) l) x.desk) x.workers e works ∙ ap (λ ms. Some (with_frame s (lane_plan (host_plan plan h) l) e ms)) is;
-            }
-
-            long : length (map (λ (w : Waiting). w.message) (m ∷ rest)) ≤ length e.hand
-            long = subst (λ ms. length (map (λ (w : Waiting). w.message) ms) ≤ length e.hand) is (subst (λ n. n ≤ length e.hand) (sym (map_long (λ (w : Waiting). w.message) (still_good s x.desk e.hand))) (filter_most (λ w. passes (frame_rule s x.desk w)) e.hand))
-
             each_whole : (old : KeptWorker done h l e) (f : Written) → record { number = e.leaf; messages = map (λ w. w.message) (m ∷ rest) } ≡ f → (g : Written) → Contains old.frames g ⊎ (f ≡ g) → IsWhole s (lane_plan (host_plan plan h) l) g
             each_whole old f new g (inl c) = old.whole g c
-            each_whole old f new g (inr same) = subst (IsWhole s (lane_plan (host_plan plan h) l)) (new ∙ same) (record { leaf = old.leaf busy; some = λ none. in_empty (map (λ (w : Waiting). w.message) (m ∷ rest)) m.message none (in_head m.message _); most = let few : length e.hand ≤ frame_limit = old.most in omega (arith, long) })
+            each_whole old f new g (inr same) = subst (IsWhole s (lane_plan (host_plan plan h) l)) (new ∙ same) (whole_now e works busy m rest is)
 
-            each_wrote : (old : KeptWorker done h l e) (f : Written) → record { number = e.leaf; messages = map (λ w. w.message) (m ∷ rest) } ≡ f → (g : Written) → Contains old.frames g ⊎ (f ≡ g) → WroteFrame s plan start h l g.number g.messages (done ++ ev ∷ [])
+            each_wrote : (old : KeptWorker done h l e) (f : Written) → record { number = e.leaf; messages = map (λ w. w.message) (m ∷ rest) } ≡ f → (g : Written) → Contains old.frames g ⊎ (f ≡ g) → WasFramed h l g.number g.messages (done ++ ev ∷ [])
             each_wrote old f new g (inl c) = wrote_later h l old.frames old.wrote g c
-            each_wrote old f new g (inr same) = subst (λ (z : Written). WroteFrame s plan start h l z.number z.messages (done ++ ev ∷ [])) (new ∙ same)
-                (past_now done ev (λ b e'. FramedOn s plan start h l e.leaf (map (λ w. w.message) (m ∷ rest)) b e') framed)
+            each_wrote old f new g (inr same) = subst (λ (z : Written). WasFramed h l z.number z.messages (done ++ ev ∷ [])) (new ∙ same)
+                (past_now done ev (λ b e'. FramedOn s plan start h l e.leaf (map (λ w. w.message) (m ∷ rest)) b e') (framed_now e works busy m rest is))
 
-        lifted_kept : (e : Worker) → slice_get x.workers l ≡ Some e → s.has_leaf (lane_plan (host_plan plan h) l).signing e.leaf ≡ true → KeptWorker (done ++ ev ∷ []) h l (lifted_after_reply (front_of (slice_get x.queues l)) e)
+        lifted_kept : (e : Worker) → slice_get x.workers l ≡ Some e → s.has_lane_leaf (lane_plan (host_plan plan h) l).signing e.leaf ≡ true → KeptWorker (done ++ ev ∷ []) h l (lifted_after_reply (front_of (slice_get x.queues l)) e)
         lifted_kept e works has =
             let old : KeptWorker done h l e = kept.workers l e works in
             record {
@@ -343,12 +355,15 @@ module _ (s : Scheme) (plan : Plan) (start : World) where
           hands = λ p y q. hand_later h p y (kept.hands p y q);
           queues = all_at (KeptQueue (done ++ ev ∷ []) h) l lifted x.queues (λ j q n w. queue_later h j q (kept.queues j q w)) (λ q w v c. queue_later h l q (kept.queues l q w) v (in_lifted q v c));
           workers = all_at (KeptWorker (done ++ ev ∷ []) h) l (lifted_after_reply (front_of (slice_get x.queues l))) x.workers (λ j z n w. worker_later h j z (kept.workers j z w))
-              (λ z w. lifted_kept z w (subst (λ (u : Worker). s.has_leaf (lane_plan (host_plan plan h) l).signing u.leaf ≡ true) (some_is e z (sym works ∙ w)) f));
+              (λ z w. lifted_kept z w (subst (λ (u : Worker). s.has_lane_leaf (lane_plan (host_plan plan h) l).signing u.leaf ≡ true) (some_is e z (sym works ∙ w)) f));
         }
-        keep_lane_ask e works AsksRecheck f = record {
+        keep_lane_ask e works (AsksRecheck hand) f = record {
           hands = λ p y q. hand_later h p y (kept.hands p y q);
           queues = λ j q w. queue_later h j q (kept.queues j q w);
-          workers = all_at (KeptWorker (done ++ ev ∷ []) h) l (checked_after_reply s (lane_plan (host_plan plan h) l) x.desk) x.workers (λ j z n w. worker_later h j z (kept.workers j z w)) (λ z w. frame_kept z w (subst (λ (u : Worker). u.hand ≢ []) (some_is e z (sym works ∙ w)) f) (still_good s x.desk z.hand) refl);
+          workers = all_at (KeptWorker (done ++ ev ∷ []) h) l (checked_after_reply s (lane_plan (host_plan plan h) l) (rechecked s x.desk hand)) x.workers (λ j z n w. worker_later h j z (kept.workers j z w))
+              (λ z w. let same : e ≡ z = some_is e z (sym works ∙ w) in
+              subst (λ ms. KeptWorker (done ++ ev ∷ []) h l (with_frame s (lane_plan (host_plan plan h) l) z (still_good (rechecked s x.desk ms) z.hand))) (ap (λ (u : Worker). u.hand) (sym same) ∙ f.0)
+              (frame_kept z w (subst (λ (u : Worker). u.hand ≢ []) same f.1) (still_good (rechecked s x.desk z.hand) z.hand) refl));
         }
 
         pub keep_lane : (o : Option Worker) → slice_get x.workers l ≡ o → KeptHost (done ++ ev ∷ []) h (step_lane s (host_plan plan h) x l o)

@@ -9,5 +9,6 @@ pub mod KeptConns
 pub mod Runs
 pub mod Delivered
 pub mod Puts
+pub mod RulesAre
 pub mod Checks
 pub mod Example

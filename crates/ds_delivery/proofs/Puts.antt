@@ -1,6 +1,6 @@
 -- Whatever message an event puts into a mailbox, a process of the host or a connection to it puts it there.
 use Rattle.std.proofs.Common.{◌≡◌, ℕ, Bool, true, false, List, [], ◌∷◌, Option, Some, None, slice_get, length, refl, sym, ◌∙◌, ap, subst, ◌⊎◌, inl, inr, arith, eqb, eqb-true}
-use Rattle.std.specs.Prelude.{nat_lt, if◌then◌else◌}
+use Rattle.std.specs.Prelude.{nat_lt, nat_le, ◌||◌, if◌then◌else◌}
 use Rattle.ds_label.specs.declared.category.Category.{Category}
 use Rattle.ds_model.specs.Scheme.{Scheme}
 use Rattle.ds_model.specs.Plan.{Plan, host_plan, conn_plan, box_plan, lane_plan}
@@ -115,7 +115,7 @@ module _ (s : Scheme) (plan : Plan) (start : World) (before : List Event) (ev : 
         go : (a : LaneAsk) → access_of_lane_ask x l a ≡ InBox b (PutIn mail) → ⊥
         go WorkerWaits e = none_box b (PutIn mail) e
         go Lifts e = no_lift l b mail (slice_get x.queues l) e
-        go AsksRecheck e = desk_box b Looked (PutIn mail) e
+        go (AsksRecheck hand) e = desk_box b Looked (PutIn mail) e
 
     -- nor does an accept
     no_accept : (k : ℕ) (o : Option Conn) → access_of_conn (host_plan plan h) (λ conn. accept s (host_plan plan h) conn (arrived now (conn_plan plan k).source conn)) x o ≡ InBox b (PutIn mail) → ⊥
@@ -129,8 +129,8 @@ module _ (s : Scheme) (plan : Plan) (start : World) (before : List Event) (ev : 
         go (AsksArrival cert m rest) f e = f
         go (PutsPassed b' m next) f e = f
 
-    no_clock : (t : ℕ) → access_of_clock (host_plan plan h) t ≡ InBox b (PutIn mail) → ⊥
-    no_clock t = go (host_plan plan h).silent
+    no_clock : (t : ℕ) → access_of_clock (host_plan plan h) x.desk.moment t ≡ InBox b (PutIn mail) → ⊥
+    no_clock t = go ((host_plan plan h).silent || nat_le t x.desk.moment)
       where
         go : (c : Bool) → (if c then NoAccess else InDesk (Ticked t)) ≡ InBox b (PutIn mail) → ⊥
         go true e = none_box b (PutIn mail) e
@@ -195,7 +195,7 @@ module _ (s : Scheme) (plan : Plan) (start : World) (before : List Event) (ev : 
         where_true (eqb h (conn_plan plan k).host) (access_of_conn (host_plan plan h) (λ conn. deliver s (host_plan plan h) conn (arrived now (conn_plan plan k).source conn)) x (slice_get now.conns k)) b mail e in
         inr (subst (λ g. slice_get now.hosts g ≡ Some x → access_of_conn (host_plan plan g) (λ conn. deliver s (host_plan plan g) conn (arrived now (conn_plan plan k).source conn)) x (slice_get now.conns k) ≡ InBox b (PutIn mail) → IsFrom s plan start g b mail before ev)
         (sym (eqb-true h (conn_plan plan k).host c.0)) (λ t d. by_conn k x t b mail r (slice_get now.conns k) refl d) there c.1)
-    by_event (Tick g t) r e = absurd (no_clock h x there b mail t (where_true (eqb h g) (access_of_clock (host_plan plan h) t) b mail e).1)
+    by_event (Tick g t) r e = absurd (no_clock h x there b mail t (where_true (eqb h g) (access_of_clock (host_plan plan h) x.desk.moment t) b mail e).1)
     by_event (Arrive k n) r e = absurd (none_box b (PutIn mail) e)
     by_event (Inject k bytes) r e = absurd (none_box b (PutIn mail) e)
     by_event (Copy k j from until) r e = absurd (none_box b (PutIn mail) e)

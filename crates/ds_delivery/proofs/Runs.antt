@@ -10,7 +10,8 @@ use Rattle.ds_model.specs.World.{Queue, Conn, Host, World}
 use Rattle.ds_model.specs.ConnectionStep.{ConnAsk, ConnWaits, ConnInternal, AsksInlet, AsksArrival, PutsPassed, arrive, accept, deliver}
 use Rattle.ds_model.specs.Step.{Event, Step, Frame, Arrive, Accept, Deliver, Tick, Inject, Copy, HostAndConn, stream_from, worker_at, step_proc, step_lane, perform_conn, stream_of, arrived, injected, with_ends, step_conn, ticked, on_host, on_conn, resolve, happens, run}
 use Rattle.ds_model.proofs.Places.{none_some, some_is}
-use Rattle.ds_delivery.specs.Premises.{IsReadable, AtSetup}
+use Rattle.ds_model.specs.Setup.{IsSetup}
+use Rattle.ds_delivery.specs.Premises.{IsReadable}
 use Rattle.ds_delivery.proofs.Lists.{Grows, grows_self, grows_same, take_grows, all_at, in_none, in_empty}
 use Rattle.ds_delivery.proofs.Pasts.{always, run_more}
 use Rattle.ds_delivery.proofs.Kept.{KeptHost, host_later, keep_proc, keep_lane}
@@ -128,7 +129,7 @@ module _ (s : Scheme) (has_spelling : Message → Bool) (plan : Plan) (start : W
     pub keep_step : Kept (done ++ ev ∷ []) (run s plan start (done ++ ev ∷ []))
     keep_step = subst (Kept (done ++ ev ∷ [])) (sym (run_more s plan done start ev)) (keep_event (resolve plan now ev) refl)
 
-  at_start : AtSetup s plan start → Kept [] start
+  at_start : IsSetup s plan start → Kept [] start
   at_start setup = record {
     hosts = λ h x e. record {
       hands = λ p y q m hand. absurd (none_some m (sym (setup.procs h x p y e q) ∙ hand));
@@ -149,5 +150,5 @@ module _ (s : Scheme) (has_spelling : Message → Bool) (plan : Plan) (start : W
     };
   }
 
-  pub all_kept : AtSetup s plan start → (events : List Event) → Kept events (run s plan start events)
+  pub all_kept : IsSetup s plan start → (events : List Event) → Kept events (run s plan start events)
   all_kept setup = always (λ done. Kept done (run s plan start done)) (at_start setup) (λ done ev kept. keep_step done ev kept)

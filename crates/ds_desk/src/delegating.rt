@@ -42,33 +42,6 @@ fn delegate_rule(store: &CertList, signer: &Signer) -> Option<Rule>
     None
 }
 
-/// Signs, and says how long a signature is at most.
-#[tactic(auto, using(crate::proofs::Grows::short_signature))]
-fn sign_short<K: Keeper>(
-    signer: &mut Signer,
-    keeper: &mut K,
-    message: &[u8],
-) -> Result<Vec<u8>, SignFault>
-    requires { signer.old.next < leaves_of signer.old.key }
-    ensures faults { K.faults keeper.old ≤ K.faults keeper.new }
-    ensures ok { IfOk result (λ made. made.items ≡ next_signature signer.old message.now) }
-    ensures short { IfOk result (λ made. length made.items ≤ 2508) }
-    ensures next { OnOk result (signer.new ≡ one_leaf_on signer.old) }
-    ensures raised { OnOk result (Raised (K.tells keeper.old) signer.old.key.id (signer.old.next + 1) (K.tells keeper.new)) }
-    ensures err { OnErr result (signer.new ≡ signer.old) }
-    ensures left { result ≢ Err SignFault.Spent }
-    ensures untouched { result ≡ Err SignFault.NoMemory → keeper.new ≡ keeper.old }
-    ensures fault { result ≡ Err SignFault.KeeperFault → Rose (K.faults keeper.old) (K.faults keeper.new) }
-    ensures may_be_raised { result ≡ Err SignFault.KeeperFault
-        → MayBeRaised (K.tells keeper.old) signer.old.key.id (signer.old.next + 1) (K.tells keeper.new) }
-    ensures traced { (released : List ℕ) → Traced (K.tells keeper.old) signer.old.key (Some signer.old.next) released
-        → MatchResult result
-        (λ _. Traced (K.tells keeper.new) signer.old.key (Some signer.new.next) (signer.old.next ∷ released))
-        (λ _. Traced (K.tells keeper.new) signer.old.key (Some signer.new.next) released) }
-{
-    signer.sign(keeper, message)
-}
-
 impl DeskState {
     /// A delegation by this host, with the signature at the identity key's next leaf, spelled: `to` may act for the category
     /// from the moment `from` on and before `until`. It joins the delegations that are kept, unless it is there, and those
@@ -127,7 +100,7 @@ impl DeskState {
         )?;
         self.store.reserve()?;
         self.issued.reserve()?;
-        match sign_short(&mut self.signer, keeper, draft.part.as_slice()) {
+        match self.signer.sign(keeper, draft.part.as_slice()) {
             Ok(made) => Ok(self.issue(stamp, who, signed_of(draft, made))),
             Err(SignFault::KeeperFault) => Err(DeskFault::KeeperFault),
             Err(SignFault::NoMemory) => Err(DeskFault::NoMemory),

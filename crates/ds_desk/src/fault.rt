@@ -12,7 +12,7 @@ use thiserror::Error;
 #[derive(Clone, Copy, Debug, PartialEq, Eq, Error)]
 pub enum DeskFault {
     /// A rule refuses it. That is entered in the history, and nothing else changed.
-    #[error("refused by a rule")]
+    #[error("refused by {0}")]
     Refused(Rule),
     /// The keeper failed to raise the identity key's mark: its count of faults rose. Nothing is entered.
     #[error("the keeper failed to raise the mark")]
@@ -26,7 +26,7 @@ pub enum DeskFault {
 #[derive(Clone, Copy, Debug, PartialEq, Eq, Error)]
 pub enum EntryFault {
     /// A rule refuses it. That is entered in the history, and nothing else changed.
-    #[error("refused by a rule")]
+    #[error("refused by {0}")]
     Refused(Rule),
     /// Memory ran out. Nothing is entered.
     #[error("out of memory")]

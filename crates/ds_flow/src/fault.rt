@@ -11,7 +11,7 @@ use thiserror::Error;
 #[derive(Clone, Copy, Debug, PartialEq, Eq, Error)]
 pub enum FlowFault {
     /// A rule drops it: the first that fails.
-    #[error("dropped by a rule")]
+    #[error("dropped by {0}")]
     Drop(Rule),
     /// Memory ran out.
     #[error("out of memory")]

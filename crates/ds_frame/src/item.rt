@@ -33,7 +33,7 @@ pub enum ReadEnd {
     #[error("the item is not whole yet")]
     NotYet,
     /// The stream is broken, for that cause and at that place, from 0.
-    #[error("the stream is broken at place {1}")]
+    #[error("the stream is broken at place {1}: {0}")]
     BadFrame(Cause, u64),
     /// Memory ran out.
     #[error("out of memory")]
@@ -50,13 +50,16 @@ pub struct Failure {
 }
 
 /// Why reading the front of a stream stops.
-#[derive(Clone, Copy, Debug, PartialEq, Eq)]
+#[derive(Clone, Copy, Debug, PartialEq, Eq, Error)]
 pub enum ReadFaultOrMemory {
     /// A field isn't whole yet, and each field before it is in range.
+    #[error("a field is not whole yet")]
     Open,
     /// For that cause, at a place that many bytes behind the item's first byte.
+    #[error("broken {1} bytes behind the first: {0}")]
     Broken(Cause, usize),
     /// Memory ran out.
+    #[error("out of memory")]
     NoMemory,
 }
 

@@ -3,61 +3,88 @@
 ghost use Rattle.std.specs.Prelude.{◌≡◌};
 
 use crate::category::Category;
+use thiserror::Error;
 
-/// The rules by which an event is refused. Three say at which category.
-#[derive(Clone, Copy, Debug, PartialEq, Eq)]
+/// The rules by which an event is refused. Three say at which category. As an error its text is its name.
+#[derive(Clone, Copy, Debug, PartialEq, Eq, Error)]
 pub enum Rule {
     /// The process's label doesn't flow to the message's label under its ownership.
+    #[error("NotFlow")]
     NotFlow,
     /// A granted ownership isn't owned.
+    #[error("GrantNotOwned")]
     GrantNotOwned,
     /// A granted clearance is neither held nor owned.
+    #[error("ClearNotHeld")]
     ClearNotHeld,
     /// The host has no lane to that exporter with exactly the message's label.
+    #[error("NoLane")]
     NoLane,
     /// No Good address certificate of that exporter is valid now.
+    #[error("NoAddress")]
     NoAddress,
     /// The first secrecy category of the message for which the receiving exporter doesn't hold.
+    #[error("PeerNotTrusted")]
     PeerNotTrusted(Category),
     /// The lane's waiting list is full.
+    #[error("LaneFull")]
     LaneFull,
     /// The lane certificate isn't valid at the receiver's moment.
+    #[error("LaneLapsed")]
     LaneLapsed,
     /// The message is for another exporter.
+    #[error("WrongHost")]
     WrongHost,
     /// The message's label isn't the lane certificate's label.
+    #[error("WrongLabel")]
     WrongLabel,
     /// The first integrity, then owned, then clearance category of the message for which the sending exporter doesn't hold.
+    #[error("SenderNotTrusted")]
     SenderNotTrusted(Category),
     /// The first category that is neither home nor mapped.
+    #[error("NotKnown")]
     NotKnown(Category),
     /// There is no such mailbox, or, for a take, it isn't the process's own.
+    #[error("NoBox")]
     NoBox,
     /// The message's label doesn't flow to the mailbox's label.
+    #[error("NotFlowToBox")]
     NotFlowToBox,
     /// The mailbox is full.
+    #[error("BoxFull")]
     BoxFull,
     /// The mailbox's label doesn't flow to the process's label under its ownership.
+    #[error("NotFlowToTaker")]
     NotFlowToTaker,
     /// The label may not be changed so.
+    #[error("LabelRefused")]
     LabelRefused,
     /// A secrecy category of the process's label isn't owned by it.
+    #[error("NotPublic")]
     NotPublic,
     /// A process delegates a category that it doesn't own.
+    #[error("NotHeld")]
     NotHeld,
     /// The identity key has no leaf left.
+    #[error("KeySpent")]
     KeySpent,
     /// The bytes aren't a delegation or address certificate, or its signature isn't Good.
+    #[error("BadCert")]
     BadCert,
     /// The desk keeps as many certificates of that kind as it may.
+    #[error("StoreFull")]
     StoreFull,
     /// The mapping table has as many rows as it may.
+    #[error("TableFull")]
     TableFull,
     /// A join would exceed 16,384 bytes.
+    #[error("TooLong")]
     TooLong,
     /// A label, ownership or clearance would get a 65th member, or no further category can be made.
+    #[error("TooMany")]
     TooMany,
     /// The frame's number isn't above the inlet's last.
+    #[error("Stale")]
     Stale,
 }
 

@@ -1,13 +1,6 @@
 -- How long bodies and signatures are.
 use Rattle.std.proofs.Common.{◌≡◌, ℕ, suc, ◌≤◌, List, [], ◌∷◌, length, All, arith}
 use Rattle.std.specs.List.{AllByRecursion}
-use Rattle.lms_sig.specs.Parameters.{signature_length}
-use Rattle.lms_sig.specs.declared.params.LmsType.{LmsType}
-use Rattle.lms_sig.specs.declared.params.LmsType.TheVariants.{H5, H10}
-use Rattle.lms_sig.specs.declared.params.OtsType.{OtsType}
-use Rattle.lms_sig.specs.declared.params.OtsType.TheVariants.{W4, W8}
-use Rattle.lms_sig.proofs.Lengths.{length-signature}
-use Rattle.lms_state.specs.Signers.{Signing, next_signature}
 use Rattle.ds_cert.specs.declared.lane.LaneCert.{LaneCert}
 use Rattle.ds_frame.specs.Ranges.{BodiesRange}
 use Rattle.ds_frame.proofs.BodyLaws.{small_bodies}
@@ -34,13 +27,3 @@ bodies_fit bodies some few small =
 -- what a lane's messages keep
 pub have_spelling : (cert : LaneCert) (hand : List Waiting) → All (WaitsOn cert) hand → All HasSpelling hand
 have_spelling cert hand all = λ k d lt. (all k d lt).range
-
--- a signature has at most 2,508 bytes
-longest : (lms : LmsType) (ots : OtsType) → signature_length (record { lms = lms; ots = ots }) ≤ 2508
-longest H5 W4 = omega arith
-longest H5 W8 = omega arith
-longest H10 W4 = omega arith
-longest H10 W8 = omega arith
-
-pub short_signature : (made : List ℕ) (s : Signing) (message : List ℕ) → made ≡ next_signature s message → length made ≤ 2508
-short_signature made s message is = rw (is, length-signature s.key.params s.key.seed s.key.id s.next message) (longest s.key.params.lms s.key.params.ots)

@@ -1,11 +1,12 @@
 -- A lane's worker: what it holds, and what it becomes.
-use Rattle.std.specs.Prelude.{ℕ, ◌<◌, List, [], ◌∷◌, ◌++◌, length, map, All}
+use Rattle.std.specs.Prelude.{◌≡◌, ℕ, ◌<◌, List, [], ◌∷◌, ◌++◌, length, map, All}
 use Rattle.ds_label.specs.declared.rule.Rule.{Rule}
 use Rattle.ds_cert.specs.declared.lane.LaneCert.{LaneCert}
 use Rattle.ds_script.specs.declared.actor.Actor.{Actor}
 use Rattle.ds_msg.specs.Ranges.{MessageRange}
 use Rattle.ds_msg.specs.Spelling.{spelling_of_message}
 use Rattle.ds_frame.specs.Spelling.{part_of_frame, spelling_of_frame, spelling_of_hello}
+use Rattle.lms_sig.specs.Merkle.{public_key}
 use Rattle.lms_state.specs.Signers.{Signing, leaves_of, next_signature, one_leaf_on}
 use Rattle.ds_lane.specs.declared.batch.Waiting.{Waiting}
 use Rattle.ds_lane.specs.declared.worker_entry.WorkerEntry.{WorkerEntry}
@@ -31,8 +32,13 @@ pub record WorkerWithCapacity : Type 0 where
 abbrev pub IsReady : Signing → Type 0
 IsReady s = s.next < leaves_of s.key
 
--- where something is in hand a leaf is left, and each message in hand is of the lane
+-- the certificate's key is the signer's public key
+abbrev pub IsKeyOf : Signing → LaneCert → Type 0
+IsKeyOf s cert = cert.key.0 ≡ public_key s.key.params s.key.seed s.key.id
+
+-- The certificate is of the worker's key; where something is in hand a leaf is left, and each message in hand is of the lane.
 pub record IsHolding (e : Worker) : Type 0 where
+  pub key : IsKeyOf e.signing e.cert
   pub ready : 0 < length e.hand → IsReady e.signing
   pub on : All (WaitsOn e.cert) e.hand
 

@@ -58,33 +58,6 @@ pub(crate) fn part_with_room(
     Ok(part)
 }
 
-/// Signs, where a leaf is left, and says how long a signature is.
-#[tactic(auto, using(crate::proofs::Sizes::short_signature))]
-pub(crate) fn sign_short<K: Keeper>(
-    signer: &mut Signer,
-    keeper: &mut K,
-    message: &[u8],
-) -> Result<Vec<u8>, SignFault>
-    requires { signer.old.next < leaves_of signer.old.key }
-    ensures faults { K.faults keeper.old ≤ K.faults keeper.new }
-    ensures ok { IfOk result (λ made. made.items ≡ next_signature signer.old message.now) }
-    ensures short { IfOk result (λ made. length made.items ≤ 2508) }
-    ensures next { OnOk result (signer.new ≡ one_leaf_on signer.old) }
-    ensures raised { OnOk result (Raised (K.tells keeper.old) signer.old.key.id (signer.old.next + 1) (K.tells keeper.new)) }
-    ensures err { OnErr result (signer.new ≡ signer.old) }
-    ensures left { result ≢ Err SignFault.Spent }
-    ensures untouched { result ≡ Err SignFault.NoMemory → keeper.new ≡ keeper.old }
-    ensures fault { result ≡ Err SignFault.KeeperFault → Rose (K.faults keeper.old) (K.faults keeper.new) }
-    ensures may_be_raised { result ≡ Err SignFault.KeeperFault
-        → MayBeRaised (K.tells keeper.old) signer.old.key.id (signer.old.next + 1) (K.tells keeper.new) }
-    ensures traced { (released : List ℕ) → Traced (K.tells keeper.old) signer.old.key (Some signer.old.next) released
-        → MatchResult result
-        (λ _. Traced (K.tells keeper.new) signer.old.key (Some signer.new.next) (signer.old.next ∷ released))
-        (λ _. Traced (K.tells keeper.new) signer.old.key (Some signer.new.next) released) }
-{
-    signer.sign(keeper, message)
-}
-
 /// Appends a frame, from its signed part and its signature. It takes no memory.
 #[tactic(auto, unfolding(ds_cert::specs::Spelling::spelling_of_signature))]
 pub(crate) fn append_frame(stream: &mut Buffer, part: &[u8], signature: &[u8])

@@ -8,10 +8,10 @@ ghost use Rattle.lms_state.specs.Once.{Traced};
 ghost use Rattle.lms_state.specs.Signers.{leaves_of};
 ghost use Rattle.ds_cert.specs.Ranges.{LaneCertRange};
 ghost use Rattle.ds_lane.specs.Lanes.{WaitsOn};
-ghost use Rattle.ds_lane.specs.Workers.{IsHolding, IsReady, fresh_worker, holding, framed, dropped, dropped_entry};
+ghost use Rattle.ds_lane.specs.Workers.{IsHolding, IsKeyOf, IsReady, fresh_worker, holding, framed, dropped, dropped_entry};
 
 use crate::batch::{BodyBatch, Waiting};
-use crate::framing::{append_frame, part_with_room, sign_short};
+use crate::framing::{append_frame, part_with_room};
 use crate::worker_entry::{WorkerAct, WorkerEntry};
 use ds_base::Keeper;
 use ds_cert::LaneCert;
@@ -90,15 +90,16 @@ fn enter_dropped(entries: &mut Vec<WorkerEntry>, stamp: u64, rule: Rule, hand: &
 }
 
 impl LaneEnd {
-    /// A worker of a lane with this certificate, with nothing in hand. Its stream is the hello. `AllocError` where memory
-    /// runs out.
+    /// A worker of a lane with this certificate, whose key is the signer's public key, with nothing in hand. Its stream is the
+    /// hello. `AllocError` where memory runs out.
     pub fn new(
         alloc: Global,
         who: Actor,
         cert: &LaneCert,
         signer: Signer,
     ) -> Result<LaneEnd, AllocError>
-        requires { LaneCertRange cert.now }
+        requires range { LaneCertRange cert.now }
+        requires key { IsKeyOf signer cert.now }
         ensures { IfOk result (λ e. e.worker ≡ fresh_worker who cert.now signer) }
     {
         let hello = hello_bytes(cert)?;
@@ -120,9 +121,10 @@ impl LaneEnd {
         self.who
     }
 
-    /// The lane's certificate.
+    /// The lane's certificate, whose key is the signer's public key.
     pub fn cert(&self) -> &LaneCert
-        ensures { result.now ≡ self.now.worker.cert }
+        ensures cert { result.now ≡ self.now.worker.cert }
+        ensures key { IsKeyOf self.now.worker.signing self.now.worker.cert }
     {
         &self.cert
     }
@@ -141,9 +143,11 @@ impl LaneEnd {
         self.signer.next()
     }
 
-    /// The messages in hand.
+    /// The messages in hand. Where there is one a leaf is left, and each has the certificate's receiver and label and a
+    /// spelling.
     pub fn hand(&self) -> &BodyBatch
-        ensures { result.now ≡ self.now.worker.hand }
+        ensures hand { result.now ≡ self.now.worker.hand }
+        ensures holding { IsHolding self.now.worker }
     {
         &self.hand
     }
@@ -160,14 +164,6 @@ impl LaneEnd {
         ensures { result.now ≡ self.now.worker.entries }
     {
         self.entries.as_slice()
-    }
-
-    /// What every worker keeps: where something is in hand a leaf is left, and each message in hand has the certificate's
-    /// receiver and label and a spelling.
-    pub fn is_holding(&self)
-        ensures { IsHolding self.now.worker }
-    {
-        let _who = self.who;
     }
 
     /// Makes room for what one event enters. `AllocError` where memory runs out; nothing but the room changed then.
@@ -221,10 +217,11 @@ impl LaneEnd {
         let count = self.hand.len() as u32;
         let hand = self.hand.as_slice();
         let part = part_with_room(self.alloc, number, hand, &mut self.stream)?;
-        let signature = match sign_short(&mut self.signer, keeper, part.as_slice()) {
+        let signature = match self.signer.sign(keeper, part.as_slice()) {
             Ok(signature) => signature,
             Err(SignFault::KeeperFault) => return Err(LaneFault::KeeperFault),
-            Err(_) => return Err(LaneFault::NoMemory),
+            Err(SignFault::NoMemory) => return Err(LaneFault::NoMemory),
+            Err(SignFault::Spent) => unreachable!(),
         };
         append_frame(&mut self.stream, part.as_slice(), signature.as_slice());
         self.hand = BodyBatch::new(self.alloc);

@@ -22,7 +22,7 @@ processes_told s plan x p (AsksJudgement m) = at_here p _ x.procs
 pub workers_told : WorkersTold
 workers_told s plan x l WorkerWaits = map_id (slice_get x.workers l)
 workers_told s plan x l Lifts = at_here l _ x.workers
-workers_told s plan x l AsksRecheck = at_here l _ x.workers
+workers_told s plan x l (AsksRecheck hand) = at_here l _ x.workers
 
 pub connections_told : ConnectionsTold
 connections_told s plan x k ConnWaits = refl

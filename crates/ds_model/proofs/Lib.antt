@@ -1,4 +1,6 @@
 pub mod Schedules
+pub mod Rechecks
+pub mod Moves
 pub mod Places
 pub mod Needs
 pub mod Replays

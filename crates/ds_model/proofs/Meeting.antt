@@ -1,6 +1,6 @@
 -- What an event touches may stand there, and each object is the replay of its own entries.
 use Rattle.std.proofs.Common.{◌≡◌, ℕ, true, List, [], ◌∷◌, Option, Some, None, slice_get, option_map, refl, sym, ◌∙◌, ap, subst, eqb, eqb-true}
-use Rattle.std.specs.Prelude.{if◌then◌else◌, min, length}
+use Rattle.std.specs.Prelude.{if◌then◌else◌, ◌||◌, nat_le, min, length}
 use Rattle.ds_label.specs.declared.category.Category.{Category}
 use Rattle.ds_script.specs.Replay.{onward, replay}
 use Rattle.ds_model.specs.Scheme.{Scheme}
@@ -77,7 +77,7 @@ module _ (s : Scheme) (plan : HostPlan) (x : Host) where
   lane_meets : (l : ℕ) (a : LaneAsk) → Meets s plan (objects x) (access_of_lane_ask x l a)
   lane_meets l WorkerWaits = tt
   lane_meets l Lifts = lift_in_meets l (slice_get x.queues l) refl
-  lane_meets l AsksRecheck = refl
+  lane_meets l (AsksRecheck hand) = refl
 
   worker_meets : (l : ℕ) (o : Option Worker) → Meets s plan (objects x) (access_of_lane s plan x l o)
   worker_meets l None = tt
@@ -94,8 +94,8 @@ module _ (s : Scheme) (plan : HostPlan) (x : Host) where
   end_meets asks None = tt
   end_meets asks (Some y) = conn_meets (asks y)
 
-  clock_meets : (t : ℕ) → Meets s plan (objects x) (access_of_clock plan t)
-  clock_meets t = cond_case (Meets s plan (objects x)) plan.silent NoAccess (InDesk (Ticked t)) (λ _. tt) (λ _. refl)
+  clock_meets : (t : ℕ) → Meets s plan (objects x) (access_of_clock plan x.desk.moment t)
+  clock_meets t = cond_case (Meets s plan (objects x)) (plan.silent || nat_le t x.desk.moment) NoAccess (InDesk (Ticked t)) (λ _. tt) (λ _. refl)
 
 module _ (s : Scheme) (plan : Plan) (w : World) (h : ℕ) (x : Host) where
   if_here : (g : ℕ) (t : Access) → Meets s (host_plan plan h) (objects x) t → Meets s (host_plan plan h) (objects x) (if eqb h g then t else NoAccess)

@@ -1,6 +1,7 @@
 -- Each event makes at most one entry in one object, where it may stand, and changes objects by that alone.
 use Rattle.std.proofs.Common.{◌≡◌, ℕ, Bool, true, false, cond, [], ◌∷◌, Option, Some, None, slice_get, option_map, refl, sym, ◌∙◌, ap, ap₂, arith, eqb, eqb-true, eq-eqb, ne_eqb}
-use Rattle.std.specs.Prelude.{if◌then◌else◌, min, length}
+use Rattle.std.specs.Prelude.{if◌then◌else◌, ◌≤◌, ◌||◌, min, max, nat_le, length}
+use Rattle.std.proofs.lemmas.Bool.{leb-true}
 use native.Mathlib.Decide.{ℕ_discrete}
 use Rattle.ds_label.specs.declared.category.Category.{Category}
 use Rattle.ds_label.specs.declared.category.PubKey.{PubKey}
@@ -61,7 +62,7 @@ module _ (s : Scheme) (plan : HostPlan) (x : Host) where
   lane_touch : (l : ℕ) (a : LaneAsk) → objects (perform_lane s plan x l a) ≡ objects_after plan.key (access_of_lane_ask x l a) (objects x)
   lane_touch l WorkerWaits = refl
   lane_touch l Lifts = lift_is plan.key l _ (objects x) refl
-  lane_touch l AsksRecheck = refl
+  lane_touch l (AsksRecheck hand) = refl
 
   conn_touch : (y : Conn) (a : ConnAsk) → objects (perform_conn s plan x y a).host ≡ objects_after plan.key (access_of_conn_ask plan x a) (objects x)
   conn_touch y ConnWaits = refl
@@ -78,12 +79,17 @@ module _ (s : Scheme) (plan : HostPlan) (x : Host) where
   worker_touch l None = refl
   worker_touch l (Some e) = lane_touch l (lane_ask s (lane_plan plan l) e)
 
-clock_touch : (plan : HostPlan) (t : ℕ) (x : Host) → objects (ticked plan t x) ≡ objects_after plan.key (access_of_clock plan t) (objects x)
-clock_touch plan t x = go plan.silent
+-- a tick to a moment that isn't above the desk's
+pub not_raised : (m t : ℕ) → nat_le t m ≡ true → max m t ≡ m
+not_raised m t e = let le : t ≤ m = leb-true t m e in omega (arith, le)
+
+clock_touch : (plan : HostPlan) (t : ℕ) (x : Host) → objects (ticked plan t x) ≡ objects_after plan.key (access_of_clock plan x.desk.moment t) (objects x)
+clock_touch plan t x = go plan.silent (nat_le t x.desk.moment) refl
   where
-    go : (z : Bool) → objects (if z then x else record x { desk = desk_after plan.key (Ticked t) x.desk }) ≡ objects_after plan.key (if z then NoAccess else InDesk (Ticked t)) (objects x)
-    go true = refl
-    go false = refl
+    go : (z b : Bool) → nat_le t x.desk.moment ≡ b → objects (if z then x else record x { desk = desk_after plan.key (Ticked t) x.desk }) ≡ objects_after plan.key (if z || b then NoAccess else InDesk (Ticked t)) (objects x)
+    go true b e = refl
+    go false false e = refl
+    go false true e = ap (λ n. record (objects x) { desk = record x.desk { moment = n } }) (not_raised x.desk.moment t e)
 
 -- on whole worlds
 
@@ -141,7 +147,7 @@ module _ (s : Scheme) (plan : Plan) (w : World) where
   event_touch (Frame g l) h o e = host_touch g _ (λ j x. access_of_lane s (host_plan plan j) x l (slice_get x.workers l)) (λ x q. worker_touch s (host_plan plan g) x l (slice_get x.workers l)) h o e
   event_touch (Accept k) h o e = ends_touch k _ (λ j conn. accept s (host_plan plan j) conn (arrived w (conn_plan plan k).source conn)) refl (slice_get w.hosts (conn_plan plan k).host) (slice_get w.conns k) refl h o e
   event_touch (Deliver k) h o e = ends_touch k _ (λ j conn. deliver s (host_plan plan j) conn (arrived w (conn_plan plan k).source conn)) refl (slice_get w.hosts (conn_plan plan k).host) (slice_get w.conns k) refl h o e
-  event_touch (Tick g t) h o e = host_touch g _ (λ j x. access_of_clock (host_plan plan j) t) (λ x q. clock_touch (host_plan plan g) t x) h o e
+  event_touch (Tick g t) h o e = host_touch g _ (λ j x. access_of_clock (host_plan plan j) x.desk.moment t) (λ x q. clock_touch (host_plan plan g) t x) h o e
   event_touch (Arrive k n) h o e = still_touch h o e
   event_touch (Inject k bytes) h o e = still_touch h o e
   event_touch (Copy k j from until) h o e = still_touch h o e

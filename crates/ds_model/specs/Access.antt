@@ -1,5 +1,5 @@
 -- What an event touches: at most one shared object of one host, in which it makes at most one entry.
-use Rattle.std.specs.Prelude.{◌≡◌, ◌==◌, ℕ, List, [], ◌∷◌, ◌++◌, Option, Some, None, length, min, slice_get, option_map, if◌then◌else◌}
+use Rattle.std.specs.Prelude.{◌≡◌, ◌==◌, ◌||◌, nat_le, ℕ, List, [], ◌∷◌, ◌++◌, Option, Some, None, length, min, slice_get, option_map, if◌then◌else◌}
 use Rattle.ds_label.specs.declared.category.Category.{Category}
 use Rattle.ds_label.specs.declared.category.PubKey.{PubKey}
 use Rattle.ds_script.specs.Replay.{onward, replay}
@@ -77,7 +77,7 @@ access_of_ask s plan x p (AsksJudgement m) = InDesk Looked
 abbrev pub access_of_lane_ask : Host → (lane : ℕ) → LaneAsk → Access
 access_of_lane_ask x l WorkerWaits = NoAccess
 access_of_lane_ask x l Lifts = lift_access_in l (slice_get x.queues l)
-access_of_lane_ask x l AsksRecheck = InDesk Looked
+access_of_lane_ask x l (AsksRecheck hand) = InDesk Looked
 
 -- of a connection
 abbrev pub access_of_conn_ask : HostPlan → Host → ConnAsk → Access
@@ -102,9 +102,9 @@ abbrev pub access_of_conn : HostPlan → (Conn → ConnAsk) → Host → Option 
 access_of_conn plan asks x None = NoAccess
 access_of_conn plan asks x (Some y) = access_of_conn_ask plan x (asks y)
 
--- a tick makes its entry, also where the moment stays
-abbrev pub access_of_clock : HostPlan → ℕ → Access
-access_of_clock plan t = if plan.silent then NoAccess else InDesk (Ticked t)
+-- a tick makes its entry where it raises the moment, and else touches nothing
+abbrev pub access_of_clock : HostPlan → (moment to : ℕ) → Access
+access_of_clock plan moment t = if plan.silent || nat_le t moment then NoAccess else InDesk (Ticked t)
 
 -- what an event touches on host h, given what stands there
 abbrev pub access_at : Scheme → Plan → World → Event → ℕ → Host → Access
@@ -112,7 +112,7 @@ access_at s plan w (Step g p) h x = if h == g then access_of_proc s (host_plan p
 access_at s plan w (Frame g l) h x = if h == g then access_of_lane s (host_plan plan h) x l (slice_get x.workers l) else NoAccess
 access_at s plan w (Accept k) h x = if h == (conn_plan plan k).host then access_of_conn (host_plan plan h) (λ conn. accept s (host_plan plan h) conn (arrived w (conn_plan plan k).source conn)) x (slice_get w.conns k) else NoAccess
 access_at s plan w (Deliver k) h x = if h == (conn_plan plan k).host then access_of_conn (host_plan plan h) (λ conn. deliver s (host_plan plan h) conn (arrived w (conn_plan plan k).source conn)) x (slice_get w.conns k) else NoAccess
-access_at s plan w (Tick g t) h x = if h == g then access_of_clock (host_plan plan h) t else NoAccess
+access_at s plan w (Tick g t) h x = if h == g then access_of_clock (host_plan plan h) x.desk.moment t else NoAccess
 access_at s plan w (Arrive k n) h x = NoAccess
 access_at s plan w (Inject k bytes) h x = NoAccess
 access_at s plan w (Copy k j from until) h x = NoAccess
@@ -212,22 +212,27 @@ entries_of own [] = []
 entries_of own (t ∷ ts) = own t ++ entries_of own ts
 
 -- an object's state after a run is the replay of the run's own entries from its state before, each where it may stand
-abbrev pub Replayed : {S E : Type 0} → Scheme → Plan → (host : ℕ) → (Objects → Option S) → (Access → List E) → (S → E → Option S) → World → List Event → Type 0
+abbrev pub Replayed : {S E : Type 0} → Scheme → Plan → (host : ℕ) → (Objects → Option S) → (Access → List E) →
+    (S → E → Option S) → World → List Event → Type 0
 Replayed s plan h state own step w events =
     onward (onward (objects_at w h) state) (λ x. replay step x (entries_of own (accesses s plan w events h))) ≡ onward (objects_at (run s plan w events) h) state
 
 -- each mailbox
 abbrev pub BoxesReplay : Type 0
-BoxesReplay = (s : Scheme) (plan : Plan) (w : World) (events : List Event) (h b : ℕ) → Replayed s plan h (box_state b) (box_entry b) (box_step (box_plan (host_plan plan h) b).room) w events
+BoxesReplay = (s : Scheme) (plan : Plan) (w : World) (events : List Event) (h b : ℕ) →
+    Replayed s plan h (box_state b) (box_entry b) (box_step (box_plan (host_plan plan h) b).room) w events
 
 -- each lane's waiting list
 abbrev pub LanesReplay : Type 0
-LanesReplay = (s : Scheme) (plan : Plan) (w : World) (events : List Event) (h l : ℕ) → Replayed s plan h (lane_state l) (lane_entry l) (lane_step (lane_plan (host_plan plan h) l).room) w events
+LanesReplay = (s : Scheme) (plan : Plan) (w : World) (events : List Event) (h l : ℕ) →
+    Replayed s plan h (lane_state l) (lane_entry l) (lane_step (lane_plan (host_plan plan h) l).room) w events
 
 -- each inlet
 abbrev pub InletsReplay : Type 0
-InletsReplay = (s : Scheme) (plan : Plan) (w : World) (events : List Event) (h i : ℕ) → Replayed s plan h (inlet_state i) (inlet_entry i) inlet_step w events
+InletsReplay = (s : Scheme) (plan : Plan) (w : World) (events : List Event) (h i : ℕ) →
+    Replayed s plan h (inlet_state i) (inlet_entry i) inlet_step w events
 
 -- each desk
 abbrev pub DesksReplay : Type 0
-DesksReplay = (s : Scheme) (plan : Plan) (w : World) (events : List Event) (h : ℕ) → Replayed s plan h desk_state desk_entry (desk_step s (host_plan plan h)) w events
+DesksReplay = (s : Scheme) (plan : Plan) (w : World) (events : List Event) (h : ℕ) →
+    Replayed s plan h desk_state desk_entry (desk_step s (host_plan plan h)) w events

@@ -1,11 +1,11 @@
 -- The plan: what setup fixes and no event changes. Things are told apart by their places, from 0.
 -- Where the plan has no such thing, a named one stands for it: it has no key, an empty label and no room.
-use Rattle.std.specs.Prelude.{ℕ, ◌<◌, Bool, true, List, [], length, get_or}
+use Rattle.std.specs.Prelude.{ℕ, ◌<◌, Bool, true, List, [], length, map, get_or}
 use Rattle.ds_label.specs.declared.category.PubKey.{PubKey}
 use Rattle.ds_label.specs.declared.category.Category.{Category}
 use Rattle.ds_cert.specs.declared.lane.LaneCert.{LaneCert}
 use Rattle.ds_model.specs.Keys.{no_key}
-use Rattle.ds_model.specs.Scheme.{SigningKey, InletName}
+use Rattle.ds_model.specs.Scheme.{SigningKey, LaneKey, InletName}
 
 -- a mailbox: its slot, the process that takes from it, its label, and how many messages may wait
 pub record BoxPlan : Type 0 where
@@ -17,11 +17,20 @@ pub record BoxPlan : Type 0 where
 -- a lane: its certificate, the key that signs its frames, and how many messages may wait
 pub record LanePlan : Type 0 where
   pub cert : LaneCert
-  pub signing : SigningKey
+  pub signing : LaneKey
   pub room : ℕ
 
--- A host. A silent host is one for which outsiders act. `keys` are the keys of all hosts, by their numbers in scripts;
--- `procs` is how many processes there are.
+-- A host. A silent host is one for which outsiders act; `procs` is how many processes there are.
+pub record HostSetup : Type 0 where
+  pub key : PubKey
+  pub silent : Bool
+  pub signing : SigningKey
+  pub procs : ℕ
+  pub boxes : List BoxPlan
+  pub lanes : List LanePlan
+  pub inlets : List InletName
+
+-- a host with the keys of all hosts, by their numbers in scripts
 pub record HostPlan : Type 0 where
   pub key : PubKey
   pub silent : Bool
@@ -44,7 +53,7 @@ pub record ConnPlan : Type 0 where
 
 -- hosts and connections, by their places
 pub record Plan : Type 0 where
-  pub hosts : List HostPlan
+  pub hosts : List HostSetup
   pub conn_plans : List ConnPlan
 
 -- the keys, hosts and things that stand where the plan has none
@@ -52,8 +61,8 @@ abbrev pub no_signing : SigningKey
 no_signing = record { tree = 0; chains = 0; seed = []; identifier = [] }
 
 -- no host: it is silent and has nothing
-abbrev pub no_host : HostPlan
-no_host = record { key = no_key; silent = true; signing = no_signing; keys = []; procs = 0; boxes = []; lanes = []; inlets = [] }
+abbrev pub no_host : HostSetup
+no_host = record { key = no_key; silent = true; signing = no_signing; procs = 0; boxes = []; lanes = []; inlets = [] }
 
 -- no mailbox
 abbrev pub no_box : BoxPlan
@@ -75,13 +84,34 @@ no_inlet = record { exporter = no_key; lane = 0 }
 abbrev pub no_wire : ConnPlan
 no_wire = record { host = 0; source = Link }
 
+-- the keys of all hosts, one list for the whole plan
+abbrev pub all_keys : Plan → List PubKey
+all_keys plan = map (λ x. x.key) plan.hosts
+
+-- a host with these keys
+abbrev pub with_keys : List PubKey → HostSetup → HostPlan
+with_keys keys x = record {
+  key = x.key;
+  silent = x.silent;
+  signing = x.signing;
+  keys = keys;
+  procs = x.procs;
+  boxes = x.boxes;
+  lanes = x.lanes;
+  inlets = x.inlets;
+}
+
 -- host h
 abbrev pub host_plan : Plan → ℕ → HostPlan
-host_plan plan h = get_or plan.hosts h no_host
+host_plan plan h = with_keys (all_keys plan) (get_or plan.hosts h no_host)
 
 -- connection k
 abbrev pub conn_plan : Plan → ℕ → ConnPlan
 conn_plan plan k = get_or plan.conn_plans k no_wire
+
+-- the host to which connection k leads
+abbrev pub receiving_host : Plan → ℕ → HostPlan
+receiving_host plan k = host_plan plan (conn_plan plan k).host
 
 -- mailbox b of a host
 abbrev pub box_plan : HostPlan → ℕ → BoxPlan

@@ -4,22 +4,23 @@ use Rattle.ds_label.specs.declared.category.Category.{Category}
 use Rattle.ds_label.specs.declared.rule.Rule.{Rule}
 use Rattle.ds_model.specs.Scheme.{Scheme}
 use Rattle.ds_model.specs.Plan.{HostPlan, lane_plan}
-use Rattle.ds_model.specs.Desk.{Desk, Reply, act_entry, reply_of}
+use Rattle.ds_model.specs.Desk.{Reply, act_entry, reply_of}
 use Rattle.ds_model.specs.World.{Process, Mail, Waiting, Worker, Conn, Host}
 use Rattle.ds_model.specs.ProcessStep.{Ask, Waits, Internal, Put, Admit, TakeFrom, PublicAct, AsksJudgement, taken_after_reply, act_after_reply, judged_after_reply}
-use Rattle.ds_model.specs.WorkerStep.{LaneAsk, WorkerWaits, Lifts, AsksRecheck, lifted_after_reply, checked_after_reply}
+use Rattle.ds_model.specs.WorkerStep.{LaneAsk, WorkerWaits, Lifts, AsksRecheck, rechecked, lifted_after_reply, checked_after_reply}
 use Rattle.ds_model.specs.ConnectionStep.{ConnAsk, ConnWaits, ConnInternal, AsksInlet, AsksArrival, PutsPassed, judge_delivery, delivery_after_reply}
 use Rattle.ds_model.specs.Step.{perform, perform_lane, perform_conn, oldest_in, front_of, fresh_in, judged, attached}
 
--- nothing; a mailbox's oldest message; the desk's reply to an act; its judgement of a send, with the certificates that go
--- with it; the first waiting messages; the desk as a worker reads it; whether a number is fresh; the judgement of an arrival
+-- nothing; a mailbox's oldest message; the desk's reply to an act; its judgement of a send, with the certificates
+-- that go with it; the first waiting messages; its judgement of each message in a worker's hand; whether a number is
+-- fresh; the judgement of an arrival
 pub data ActorReply : Type 0 where
   Nothing : ActorReply
   Oldest : Option (Mail Category) → ActorReply
   Replied : Reply → ActorReply
   Judged : List (List ℕ) → Option Rule → ActorReply
   Front : List Waiting → ActorReply
-  Read : Desk → ActorReply
+  Rechecked : List (Option Rule) → ActorReply
   IsFresh : Bool → ActorReply
   Ruled : Option Rule → ActorReply
 
@@ -46,15 +47,15 @@ proc_after_reply _ _ y = y
 -- a lane's worker
 
 -- what a lane's worker is answered
-abbrev pub worker_reply : Host → (lane : ℕ) → LaneAsk → ActorReply
-worker_reply x l WorkerWaits = Nothing
-worker_reply x l Lifts = Front (front_of (slice_get x.queues l))
-worker_reply x l AsksRecheck = Read x.desk
+abbrev pub worker_reply : Scheme → Host → (lane : ℕ) → LaneAsk → ActorReply
+worker_reply s x l WorkerWaits = Nothing
+worker_reply s x l Lifts = Front (front_of (slice_get x.queues l))
+worker_reply s x l (AsksRecheck hand) = Rechecked (rechecked s x.desk hand)
 
 -- the worker by what it asked and the answer
 abbrev pub worker_after_reply : Scheme → HostPlan → (lane : ℕ) → LaneAsk → ActorReply → Worker → Worker
 worker_after_reply s plan l Lifts (Front ms) e = lifted_after_reply ms e
-worker_after_reply s plan l AsksRecheck (Read d) e = checked_after_reply s (lane_plan plan l) d e
+worker_after_reply s plan l (AsksRecheck hand) (Rechecked rules) e = checked_after_reply s (lane_plan plan l) rules e
 worker_after_reply s plan l _ _ e = e
 
 -- a connection
@@ -79,12 +80,15 @@ conn_after_reply _ _ k = k
 
 -- a process becomes what it is told
 abbrev pub ProcessesTold : Type 0
-ProcessesTold = (s : Scheme) (plan : HostPlan) (x : Host) (p : ℕ) (a : Ask) → slice_get (perform s plan x p a).procs p ≡ option_map (proc_after_reply a (proc_reply s plan x a)) (slice_get x.procs p)
+ProcessesTold = (s : Scheme) (plan : HostPlan) (x : Host) (p : ℕ) (a : Ask) →
+    slice_get (perform s plan x p a).procs p ≡ option_map (proc_after_reply a (proc_reply s plan x a)) (slice_get x.procs p)
 
 -- so does a lane's worker
 abbrev pub WorkersTold : Type 0
-WorkersTold = (s : Scheme) (plan : HostPlan) (x : Host) (l : ℕ) (a : LaneAsk) → slice_get (perform_lane s plan x l a).workers l ≡ option_map (worker_after_reply s plan l a (worker_reply x l a)) (slice_get x.workers l)
+WorkersTold = (s : Scheme) (plan : HostPlan) (x : Host) (l : ℕ) (a : LaneAsk) →
+    slice_get (perform_lane s plan x l a).workers l ≡ option_map (worker_after_reply s plan l a (worker_reply s x l a)) (slice_get x.workers l)
 
 -- and a connection
 abbrev pub ConnectionsTold : Type 0
-ConnectionsTold = (s : Scheme) (plan : HostPlan) (x : Host) (k : Conn) (a : ConnAsk) → (perform_conn s plan x k a).conn ≡ conn_after_reply a (conn_reply s plan x a) k
+ConnectionsTold = (s : Scheme) (plan : HostPlan) (x : Host) (k : Conn) (a : ConnAsk) →
+    (perform_conn s plan x k a).conn ≡ conn_after_reply a (conn_reply s plan x a) k

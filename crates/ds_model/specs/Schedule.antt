@@ -1,15 +1,16 @@
 -- The canonical schedule: the events of a document that lists none. It goes in rounds. A round has, for each host in
 -- order, a step of each process once and then a frame of each lane twice running; and then, for each connection, the
--- arrival of all that is left, and an accept once and then deliveries as long as they change something, in turn, until
--- neither changes anything. What is still is left out. It ends after a round that kept nothing, and is cut, also in the
--- middle of a round, where it has as many events as the budget.
-use Rattle.std.specs.Prelude.{◌≡◌, ◌↔◌, ℕ, zero, suc, ◌-◌, ◌==◌, ◌||◌, Bool, false, List, [], ◌∷◌, ◌++◌, length, slice_get, Option, Some, None, if◌then◌else◌}
+-- arrival of all that is left, and an accept once and then deliveries as long as they change something, in turn,
+-- until neither changes anything. What is still is left out. It ends after a round that kept nothing, and is cut,
+-- also in the middle of a round, where it has as many events as the budget.
+use Rattle.std.specs.Prelude.{◌≡◌, ◌↔◌, ℕ, zero, suc, ◌-◌, ◌==◌, ◌||◌, Bool, false, not, List, [], ◌∷◌, ◌++◌, length, slice_get, Option, Some, None, bytes_eq, if◌then◌else◌}
 use Rattle.ds_model.specs.Lists.{gathered}
 use Rattle.ds_model.specs.Scheme.{Scheme}
 use Rattle.ds_model.specs.Plan.{Plan, host_plan}
-use Rattle.ds_model.specs.World.{Conn, World}
-use Rattle.ds_model.specs.Step.{Event, Step, Frame, Arrive, Accept, Deliver, stream_at, step}
-use Rattle.ds_model.specs.Views.{IsStill}
+use Rattle.ds_model.specs.Desk.{Desk}
+use Rattle.ds_model.specs.World.{Process, Worker, Conn, World}
+use Rattle.ds_model.specs.Step.{Event, Step, Frame, Arrive, Accept, Deliver, Tick, Inject, Copy, stream_at, worker_at, step}
+use Rattle.ds_model.specs.Views.{IsStill, proc_at, desk_at}
 
 -- whether an event changes a world
 abbrev pub Test : Type 0
@@ -18,6 +19,55 @@ Test = World → Event → Bool
 -- the test answers false exactly where an event is still
 abbrev pub Decides : Scheme → Plan → Test → Type 0
 Decides s plan changes = (w : World) (e : Event) → (changes w e ≡ false) ↔ IsStill s plan w e
+
+-- NUMBERS THAT TELL WHETHER ANYTHING CHANGED: an event that changes anything changes one of these
+
+-- 1 where there is one, and else 0
+abbrev pub how_many : {X : Type 0} → Option X → ℕ
+how_many None = 0
+how_many (Some x) = 1
+
+-- a process's place, and whether a message is in hand
+abbrev pub proc_numbers : Option Process → List ℕ
+proc_numbers None = []
+proc_numbers (Some y) = y.course.place ∷ how_many y.hand ∷ []
+
+-- how many messages a worker has in hand
+abbrev pub worker_numbers : Option Worker → List ℕ
+worker_numbers None = []
+worker_numbers (Some e) = length e.hand ∷ []
+
+-- how many bytes a link has and how many arrived, how many items were taken, how many messages are in hand, and
+-- whether one is passed and whether the connection failed
+abbrev pub conn_numbers : Option Conn → List ℕ
+conn_numbers None = []
+conn_numbers (Some y) = length y.link ∷ y.count ∷ y.taken ∷ length y.hand ∷ how_many y.passed ∷ how_many y.failed ∷ []
+
+-- a desk's moment
+abbrev pub desk_numbers : Option Desk → List ℕ
+desk_numbers None = []
+desk_numbers (Some d) = d.moment ∷ []
+
+-- the numbers of the actor of an event
+abbrev pub numbers_of : Event → World → List ℕ
+numbers_of (Step h p) w = proc_numbers (proc_at w h p)
+numbers_of (Frame h l) w = worker_numbers (worker_at (slice_get w.hosts h) l)
+numbers_of (Arrive k n) w = conn_numbers (slice_get w.conns k)
+numbers_of (Accept k) w = conn_numbers (slice_get w.conns k)
+numbers_of (Deliver k) w = conn_numbers (slice_get w.conns k)
+numbers_of (Tick h t) w = desk_numbers (desk_at w h)
+numbers_of (Inject k bytes) w = conn_numbers (slice_get w.conns k)
+numbers_of (Copy k j from until) w = conn_numbers (slice_get w.conns k)
+
+-- whether an event changes a world, by these numbers
+abbrev pub changes : Scheme → Plan → Test
+changes s plan w e = not (bytes_eq (numbers_of e (step s plan w e)) (numbers_of e w))
+
+-- it finds what is still, in every world
+abbrev pub FindsStill : Type 0
+FindsStill = (s : Scheme) (plan : Plan) → Decides s plan (changes s plan)
+
+-- THE SCHEDULE
 
 -- a schedule as it is made: the world that it has come to, its events, and how many more it may have
 pub record Schedule : Type 0 where
@@ -99,6 +149,12 @@ pub record IsCanonical (s : Scheme) (plan : Plan) (budget : ℕ) (w : World) (ev
   pub decides : Decides s plan changes
   pub made : events ≡ canonical changes s plan budget w
 
--- a world has one canonical schedule
+-- each world has a canonical schedule
+abbrev pub SomeSchedule : Type 0
+SomeSchedule = (s : Scheme) (plan : Plan) (budget : ℕ) (w : World) →
+    IsCanonical s plan budget w (canonical (changes s plan) s plan budget w)
+
+-- and one alone
 abbrev pub OneSchedule : Type 0
-OneSchedule = (s : Scheme) (plan : Plan) (budget : ℕ) (w : World) (one two : List Event) → IsCanonical s plan budget w one → IsCanonical s plan budget w two → one ≡ two
+OneSchedule = (s : Scheme) (plan : Plan) (budget : ℕ) (w : World) (one two : List Event) →
+    IsCanonical s plan budget w one → IsCanonical s plan budget w two → one ≡ two

@@ -2,18 +2,25 @@
 //! alone. All that is stateful is held against it. Its definitions stand in `specs/`, a module a topic.
 #![tactic(auto)]
 
-ghost use Rattle.ds_model.specs.Schedule.{OneSchedule};
+ghost use Rattle.ds_model.specs.Schedule.{FindsStill, OneSchedule, SomeSchedule};
 ghost use Rattle.ds_model.specs.Access.{BoxesReplay, LanesReplay, InletsReplay, DesksReplay};
 ghost use Rattle.ds_model.specs.Replies.{ProcessesTold, WorkersTold, ConnectionsTold};
 ghost use Rattle.ds_model.specs.Lawful.{SentLawfully};
 ghost use Rattle.ds_model.specs.Examples.OneHost.{Prints, IsRefused, IsReleased, IsScheduled, IsFull, IsStale};
 ghost use Rattle.ds_model.specs.Examples.Script.{IsScripted};
 ghost use Rattle.ds_model.specs.Examples.TwoHosts.{IsCarried};
+ghost use Rattle.ds_model.specs.Examples.Refusals.{CountsAlone, IsBusy, IsDropped, IsFirst, IsKeptIn, IsLapsed};
 ghost use Rattle.ds_model.specs.Examples.Texts.{IsPrinting, IsTrying, IsPosted};
 
-/// A world has one canonical schedule, by whatever test finds the events that change nothing.
+/// An event changes nothing in a world exactly where it changes none of its actor's numbers.
+pub fn still_by_numbers()
+    ensures { FindsStill }
+{}
+
+/// A world has a canonical schedule, and one alone, by whatever test finds the events that change nothing.
 pub fn one_schedule()
-    ensures { OneSchedule }
+    ensures some { SomeSchedule }
+    ensures one { OneSchedule }
 {}
 
 /// Each event of a run touches at most one shared object of one host, by at most one entry, which may stand there. So each
@@ -51,6 +58,19 @@ pub fn small_worlds()
     ensures stale { IsStale }
     ensures scripted { IsScripted }
     ensures carried { IsCarried }
+{}
+
+/// Small worlds of what must not happen, computed: of two rules that are broken the first in order is named; a process that
+/// doesn't own the secret of its label does nothing in public; a message whose label doesn't flow to its mailbox's is dropped
+/// on arrival; a connection with work in hand takes nothing; a message whose receiver's address lapsed on the lane is dropped
+/// at framing, and is nowhere; and two lanes of a host each begin at their own first leaf.
+pub fn small_refusals()
+    ensures first { IsFirst }
+    ensures kept_in { IsKeptIn }
+    ensures dropped { IsDropped }
+    ensures busy { IsBusy }
+    ensures lapsed { IsLapsed }
+    ensures alone { CountsAlone }
 {}
 
 /// The texts of three of the small worlds.

@@ -7,7 +7,7 @@ use thiserror::Error;
 #[derive(Clone, Copy, Debug, PartialEq, Eq, Error)]
 pub enum ProcFault {
     /// A rule refuses it.
-    #[error("refused by a rule")]
+    #[error("refused by {0}")]
     Refused(Rule),
     /// Memory ran out.
     #[error("out of memory")]

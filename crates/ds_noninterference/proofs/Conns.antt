@@ -14,10 +14,10 @@ use Rattle.ds_model.specs.Plan.{HostPlan, Plan, host_plan, box_plan, inlet_name,
 use Rattle.ds_model.specs.Mailbox.{put}
 use Rattle.ds_model.specs.Inlet.{Inlet, numbered}
 use Rattle.ds_model.specs.World.{Mail, Mailbox, Conn, Host, Passed}
-use Rattle.ds_model.specs.ProcessStep.{box_of, mail_of}
+use Rattle.ds_model.specs.ProcessStep.{box_of}
 use Rattle.ds_model.specs.ConnectionStep.{ConnAsk, ConnWaits, ConnInternal, AsksInlet, AsksArrival, PutsPassed, hello_of, peer, inlet_of, take_frame, frame_from, fail, accept_item, accept_free, accept, put_passed, deliver_to, deliver_from, deliver, judge_delivery, delivery_after_reply}
 use Rattle.ds_model.specs.Step.{fresh_in, perform_conn}
-use Rattle.ds_noninterference.specs.High.{is_in, high_box, HighInlet}
+use Rattle.ds_noninterference.specs.High.{is_in, high_box, high_inlet}
 use Rattle.ds_noninterference.specs.Alike.{Alike, AlikeHosts}
 use Rattle.ds_model.proofs.Places.{cond_case}
 use Rattle.ds_noninterference.proofs.Places.{both_at, one_at}
@@ -110,19 +110,19 @@ inlet_found plan cert i e =
 abbrev pub QuietAsk : Category → List ℕ → Plan → ℕ → ConnAsk → Type 0
 QuietAsk c trusted plan r ConnWaits = Unit {0}
 QuietAsk c trusted plan r (ConnInternal next) = Unit {0}
-QuietAsk c trusted plan r (AsksInlet i n fresh stale) = HighInlet c trusted plan r i
+QuietAsk c trusted plan r (AsksInlet i n fresh stale) = (high_inlet c trusted plan r i ≡ true)
 QuietAsk c trusted plan r (AsksArrival cert m rest) = Unit {0}
 QuietAsk c trusted plan r (PutsPassed b m next) = (is_in trusted r ≡ true) × (has by_name c (box_plan (host_plan plan r) b).label ≡ true)
 
 abbrev pub SeenAsk : Category → List ℕ → Plan → ℕ → ConnAsk → Type 0
 SeenAsk c trusted plan r ConnWaits = Unit {0}
 SeenAsk c trusted plan r (ConnInternal next) = Unit {0}
-SeenAsk c trusted plan r (AsksInlet i n fresh stale) = HighInlet c trusted plan r i → ⊥
+SeenAsk c trusted plan r (AsksInlet i n fresh stale) = (high_inlet c trusted plan r i ≡ true) → ⊥
 SeenAsk c trusted plan r (AsksArrival cert m rest) = Unit {0}
 SeenAsk c trusted plan r (PutsPassed b m next) = Unit {0}
 
 module _ (s : Scheme) (c : Category) (trusted : List ℕ) (plan : Plan) (r : ℕ) where
-  quiet_inlet : (x : Host) (i : ℕ) (f : Inlet → Inlet) → HighInlet c trusted plan r i → AlikeHosts c trusted plan r x (record x { inlets = at i f x.inlets })
+  quiet_inlet : (x : Host) (i : ℕ) (f : Inlet → Inlet) → (high_inlet c trusted plan r i ≡ true) → AlikeHosts c trusted plan r x (record x { inlets = at i f x.inlets })
   quiet_inlet x i f high = record {
     desk = refl;
     procs = λ p. inl refl;
@@ -130,7 +130,7 @@ module _ (s : Scheme) (c : Category) (trusted : List ℕ) (plan : Plan) (r : ℕ
     queues = λ l. inl refl;
     workers = λ l. inl refl;
     logs = λ l. inl refl;
-    inlets = one_at (λ j a b. (a ≡ b) ⊎ HighInlet c trusted plan r j) i f x.inlets (λ j n. inl refl) (inr high);
+    inlets = one_at (λ j a b. (a ≡ b) ⊎ (high_inlet c trusted plan r j ≡ true)) i f x.inlets (λ j n. inl refl) (inr high);
   }
 
   quiet_mail : (x : Host) (b : ℕ) (f : Mailbox → Mailbox) → (is_in trusted r ≡ true) → (has by_name c (box_plan (host_plan plan r) b).label ≡ true) → AlikeHosts c trusted plan r x (record x { boxes = at b f x.boxes })
@@ -162,10 +162,10 @@ module _ (s : Scheme) (c : Category) (trusted : List ℕ) (plan : Plan) (r : ℕ
       queues = alike.queues;
       workers = alike.workers;
       logs = alike.logs;
-      inlets = both_at (λ j a b. (a ≡ b) ⊎ HighInlet c trusted plan r j) (λ j a b. (a ≡ b) ⊎ HighInlet c trusted plan r j) i (numbered n) (numbered n) x.inlets x'.inlets alike.inlets (λ j k e. e) same;
+      inlets = both_at (λ j a b. (a ≡ b) ⊎ (high_inlet c trusted plan r j ≡ true)) (λ j a b. (a ≡ b) ⊎ (high_inlet c trusted plan r j ≡ true)) i (numbered n) (numbered n) x.inlets x'.inlets alike.inlets (λ j k e. e) same;
     }
       where
-        same : {o o' : Option Inlet} → (o ≡ o') ⊎ HighInlet c trusted plan r i → (option_map (numbered n) o ≡ option_map (numbered n) o') ⊎ HighInlet c trusted plan r i
+        same : {o o' : Option Inlet} → (o ≡ o') ⊎ (high_inlet c trusted plan r i ≡ true) → (option_map (numbered n) o ≡ option_map (numbered n) o') ⊎ (high_inlet c trusted plan r i ≡ true)
         same (inl e) = inl (ap (option_map (numbered n)) e)
         same (inr e) = inr e
     same_host (AsksArrival cert m rest) q = alike
@@ -183,13 +183,13 @@ module _ (s : Scheme) (c : Category) (trusted : List ℕ) (plan : Plan) (r : ℕ
         same (inl e) = inl (ap (option_map (put (box_plan (host_plan plan r) b).room m)) e)
         same (inr e) = inr e
 
-    seen_inlet : {X : Type 0} {a b : X} {i : ℕ} → (HighInlet c trusted plan r i → ⊥) → (a ≡ b) ⊎ HighInlet c trusted plan r i → a ≡ b
-    seen_inlet q (inl e) = e
-    seen_inlet q (inr h) = absurd (q h)
+    seen_inlet : {X : Type 0} {a b : X} (i : ℕ) → ((high_inlet c trusted plan r i ≡ true) → ⊥) → (a ≡ b) ⊎ (high_inlet c trusted plan r i ≡ true) → a ≡ b
+    seen_inlet i q (inl e) = e
+    seen_inlet i q (inr h) = absurd (q h)
 
     pub same_conn : (a : ConnAsk) → SeenAsk c trusted plan r a → (perform_conn s (host_plan plan r) x y a).conn ≡ (perform_conn s (host_plan plan r) x' y a).conn
     same_conn ConnWaits q = refl
     same_conn (ConnInternal next) q = refl
-    same_conn (AsksInlet i n fresh stale) q = ap (λ o. if fresh_in n o then fresh else stale) (seen_inlet q (alike.inlets i))
+    same_conn (AsksInlet i n fresh stale) q = ap (λ o. if fresh_in n o then fresh else stale) (seen_inlet i q (alike.inlets i))
     same_conn (AsksArrival cert m rest) q = ap (λ d. delivery_after_reply cert m rest (judge_delivery s (host_plan plan r) d cert m) y) alike.desk
     same_conn (PutsPassed b m next) q = refl

@@ -11,7 +11,7 @@ use Rattle.ds_model.specs.World.{Worker, Conn, Host, World}
 use Rattle.ds_model.specs.ConnectionStep.{ConnAsk, ConnWaits, ConnInternal, AsksInlet, AsksArrival, PutsPassed, arrive, peer, accept, deliver}
 use Rattle.ds_model.specs.Step.{Event, Step, Frame, Arrive, Accept, Deliver, Tick, Inject, Copy, HostAndConn, perform_conn, stream_from, worker_at, stream_of, arrived, injected, with_ends, step_conn, ticked, on_host, on_conn, happens}
 use Rattle.ds_model.specs.Views.{proc_in}
-use Rattle.ds_noninterference.specs.High.{is_in, high_lane, high_source, high_conn, HighInlet, IsTrusted}
+use Rattle.ds_noninterference.specs.High.{is_in, high_lane, high_source, high_conn, high_inlet, IsTrusted}
 use Rattle.ds_noninterference.specs.Observations.{High, mark_proc, high_or, mark_of}
 use Rattle.ds_noninterference.specs.Alike.{Hidden, AlikeHosts, AlikeAt, AlikeWorlds}
 use Rattle.ds_noninterference.specs.Premises.{IsScheme}
@@ -21,6 +21,7 @@ use Rattle.ds_noninterference.proofs.Procs.{alike_self}
 use Rattle.ds_noninterference.proofs.ProcSteps.{quiet_step, same_step}
 use Rattle.ds_noninterference.proofs.Lanes.{quiet_lane, same_lane}
 use Rattle.ds_noninterference.proofs.Conns.{ConnFacts, NumberFacts, accept_facts, deliver_facts, inlet_found, QuietAsk, SeenAsk, quiet_conn, same_host, same_conn}
+use Rattle.ds_noninterference.proofs.Inlets.{HighInlet, inlet_high, high_is}
 use Rattle.ds_noninterference.proofs.Kept.{Kept}
 use Rattle.ds_noninterference.proofs.Setting.{Setting, Sound}
 
@@ -123,12 +124,12 @@ module _ (s : Scheme) (c : Category) (trusted : List ℕ) (plan : Plan) where
     module _ (fits : Setting c trusted plan) (k : ℕ) (y : Conn) (there : slice_get w.conns k ≡ Some y) where
       -- a High connection asks only for what is High
 
-      high_number : (source : Source) (i n : ℕ) (fresh stale : Conn) → (conn_plan plan k).source ≡ source → high_source c trusted plan (conn_plan plan k).host source ≡ true → NumberFacts s (host_plan plan (conn_plan plan k).host) y (arrived w source y) i fresh stale → HighInlet c trusted plan (conn_plan plan k).host i
+      high_number : (source : Source) (i n : ℕ) (fresh stale : Conn) → (conn_plan plan k).source ≡ source → high_source c trusted plan (conn_plan plan k).host source ≡ true → NumberFacts s (host_plan plan (conn_plan plan k).host) y (arrived w source y) i fresh stale → high_inlet c trusted plan (conn_plan plan k).host i ≡ true
       high_number Link i n fresh stale q high f = absurd (grind arith)
       high_number (OfLane h l) i n fresh stale q high f =
           let own : f.cert ≡ (lane_plan (host_plan plan h) l).cert = own_peer h l (fits.real k h l q) (host_plan plan (conn_plan plan k).host) y f.cert f.read in
           let found : ((inlet_name (host_plan plan (conn_plan plan k).host) i).exporter ≡ f.cert.exporter) × ((inlet_name (host_plan plan (conn_plan plan k).host) i).lane ≡ f.cert.lane) = inlet_found (host_plan plan (conn_plan plan k).host) f.cert i f.inlet in
-          record {
+          inlet_high c trusted plan (conn_plan plan k).host i (record {
             host = h;
             lane = l;
             high = and_left _ _ high;
@@ -136,7 +137,7 @@ module _ (s : Scheme) (c : Category) (trusted : List ℕ) (plan : Plan) where
             to = sym (fits.ends k h l q);
             by = ap (λ u. u.exporter) (sym own) ∙ sym found.0;
             number = ap (λ u. u.lane) (sym own) ∙ sym found.1;
-          }
+          })
 
       high_here : (source : Source) → high_source c trusted plan (conn_plan plan k).host source ≡ true → is_in trusted (conn_plan plan k).host ≡ true
       high_here Link high = absurd (grind arith)
@@ -169,7 +170,7 @@ module _ (s : Scheme) (c : Category) (trusted : List ℕ) (plan : Plan) where
         seen_facts : (source : Source) (a : ConnAsk) → (conn_plan plan k).source ≡ source → high_source c trusted plan (conn_plan plan k).host source ≡ false → ConnFacts s (host_plan plan (conn_plan plan k).host) y (arrived w source y) a → SeenAsk c trusted plan (conn_plan plan k).host a
         seen_facts source ConnWaits q low f = tt
         seen_facts source (ConnInternal next) q low f = tt
-        seen_facts source (AsksInlet i n fresh stale) q low f = low_number source i n fresh stale q low f
+        seen_facts source (AsksInlet i n fresh stale) q low f = λ hi. low_number source i n fresh stale q low f (high_is c trusted plan (conn_plan plan k).host i hi)
         seen_facts source (AsksArrival cert m rest) q low f = tt
         seen_facts source (PutsPassed b m next) q low f = tt
 

@@ -6,12 +6,13 @@ use Rattle.ds_cert.specs.declared.delegation.Delegation.{Delegation}
 use Rattle.ds_script.specs.declared.op.Op.{Op}
 use Rattle.ds_model.specs.Plan.{IsHost, IsLane, OfLane, conn_plan, host_plan}
 use Rattle.ds_model.specs.World.{Process, Queue, Worker, Host, World}
+use Rattle.ds_model.specs.Setup.{IsSetup}
 use Rattle.ds_model.specs.Step.{Event, step}
 use Rattle.ds_model.specs.Examples.OneHost.{empty_scheme, a_secret}
 use Rattle.ds_noninterference.specs.High.{is_in, high_at, IsTrusted}
 use Rattle.ds_noninterference.specs.Observations.{Along}
 use Rattle.ds_noninterference.specs.Alike.{Alike, AlikeAt, AlikeWorlds}
-use Rattle.ds_noninterference.specs.Premises.{IsScheme, Fits, AtStart, Obeys, Unforged, NothingForged, IssuesInside}
+use Rattle.ds_noninterference.specs.Premises.{IsScheme, Fits, Obeys, Unforged, NothingForged, IssuesInside}
 use Rattle.ds_noninterference.specs.Example.{pair, pair_world, first_script, second_script, first_events, second_events, process, taking, PremisesHold}
 use Rattle.ds_noninterference.proofs.Flow.{and_left, and_right}
 
@@ -89,9 +90,12 @@ fits = record {
   lanes = λ h l g j is is' e n. absurd (no_lane_of h l is);
 }
 
-start : (script : List Op) → AtStart empty_scheme pair (pair_world script)
-start script = record { procs = procs; queues = queues; workers = workers; conns = λ k y e. absurd (none_some y e) }
+start : (script : List Op) → IsSetup empty_scheme pair (pair_world script)
+start script = record { conn_plans = conn_plans; procs = procs; queues = queues; workers = workers; conns = λ k y e. absurd (none_some y e) }
   where
+    conn_plans : (k h l : ℕ) → (conn_plan pair k).source ≡ OfLane h l → IsLane pair h l
+    conn_plans k h l e = absurd (grind arith)
+
     procs : (h : ℕ) (x : Host) (p : ℕ) (y : Process) → slice_get (pair_world script).hosts h ≡ Some x → slice_get x.procs p ≡ Some y → y.hand ≡ None
     procs zero x zero y e f = sym (ap (λ z. z.hand) (some_is _ y (ap (λ z. slice_get z.procs 0) (some_is _ x e) ∙ f)))
     procs zero x (suc zero) y e f = sym (ap (λ z. z.hand) (some_is _ y (ap (λ z. slice_get z.procs 1) (some_is _ x e) ∙ f)))
@@ -133,15 +137,17 @@ alike = record { hosts = alike_at; conns = λ k. inl refl }
 
 pub met : PremisesHold
 unfolding always unissued is_none Rattle.ds_label.specs.Flow.flows Rattle.ds_label.specs.Flow.union
-met = record {
-  scheme = scheme;
-  secret = refl;
-  fits = fits;
-  start_one = start first_script;
-  start_two = start second_script;
-  agree = record { start = alike; same_marks = refl };
-  obeys_one = obeys (pair_world first_script) first_events refl;
-  obeys_two = obeys (pair_world second_script) second_events refl;
-  unforged_one = all_unforged (pair_world first_script) first_events;
-  unforged_two = all_unforged (pair_world second_script) second_events;
-}
+met = (
+  scheme,
+  record {
+    secret = refl;
+    fits = fits;
+    start_one = start first_script;
+    start_two = start second_script;
+    agree = record { start = alike; same_marks = refl };
+    obeys_one = obeys (pair_world first_script) first_events refl;
+    obeys_two = obeys (pair_world second_script) second_events refl;
+    unforged_one = all_unforged (pair_world first_script) first_events;
+    unforged_two = all_unforged (pair_world second_script) second_events;
+  },
+)

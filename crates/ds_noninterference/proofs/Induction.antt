@@ -5,13 +5,14 @@ use Rattle.ds_label.specs.Names.{is_secrecy}
 use Rattle.ds_model.specs.Scheme.{Scheme}
 use Rattle.ds_model.specs.Plan.{HostPlan, Plan, host_plan}
 use Rattle.ds_model.specs.World.{Process, World}
+use Rattle.ds_model.specs.Setup.{IsSetup}
 use Rattle.ds_model.specs.ProcessStep.{ask}
 use Rattle.ds_model.specs.Step.{Event, Step, Frame, Arrive, Accept, Deliver, Tick, Inject, Copy, resolve, happens, step, run}
 use Rattle.ds_model.specs.Views.{proc_in}
 use Rattle.ds_noninterference.specs.High.{is_in, high_proc}
 use Rattle.ds_noninterference.specs.Observations.{Released, Mark, Release, High, Low, released, mark_released, mark_proc, high_or, mark_of, mark, unless_high, marks, Along}
 use Rattle.ds_noninterference.specs.Alike.{AlikeWorlds}
-use Rattle.ds_noninterference.specs.Premises.{IsScheme, AtStart}
+use Rattle.ds_noninterference.specs.Premises.{IsScheme}
 use Rattle.ds_noninterference.proofs.Kept.{Kept}
 use Rattle.ds_noninterference.proofs.Events.{quiet_event, same_event}
 use Rattle.ds_noninterference.proofs.KeptRuns.{keep_event}
@@ -127,14 +128,14 @@ module _ (s : Scheme) (c : Category) (secret : is_secrecy c.kind ≡ true) (trus
       go ih (inr low) = to_like e one two ih v w r kv kw sv sw low (sym (marked _ _ low) ∙ eq)
 
   -- kept from the start
-  pub start_kept : (w : World) → AtStart s plan w → Kept s c trusted plan w
+  pub start_kept : (w : World) → IsSetup s plan w → Kept s c trusted plan w
   start_kept w start = record {
     hosts = λ h x there. record {
       hands = λ p y t e m q. absurd (none_some m (sym (start.procs h x p y there e) ∙ q));
       idle = λ l u v. record { waiting = λ q e. start.queues h x l q there e; hand = λ e q. (start.workers h x l e there q).0 };
       streams = λ l e q. ([], (start.workers h x l e there q).1 ∙ sym (append-nil _));
     };
-    conns = λ k y there high m b p q. absurd (none_some m (sym (start.conns k y there) ∙ p));
+    conns = λ k y there high m b p q. absurd (none_some m (sym (start.conns k y there).1 ∙ p));
   }
     where
       none_some : {X : Type 0} (m : X) → None ≡ Some m → ⊥

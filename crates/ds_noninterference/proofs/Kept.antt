@@ -17,7 +17,7 @@ use Rattle.ds_model.specs.Lane.{admit, lifted}
 use Rattle.ds_model.specs.Desk.{Act, Reply, act_entry, reply_of}
 use Rattle.ds_model.specs.World.{Process, Mail, Waiting, Queue, Worker, Conn, Host, World, Passed}
 use Rattle.ds_model.specs.ProcessStep.{Ask, Waits, Internal, Put, Admit, TakeFrom, PublicAct, AsksJudgement, box_of, ask, taken_after_reply, act_after_reply, judged_after_reply}
-use Rattle.ds_model.specs.WorkerStep.{LaneAsk, WorkerWaits, Lifts, AsksRecheck, lane_ask, lifted_after_reply, checked_after_reply, with_frame}
+use Rattle.ds_model.specs.WorkerStep.{LaneAsk, WorkerWaits, Lifts, AsksRecheck, lane_ask, rechecked, lifted_after_reply, checked_after_reply, with_frame}
 use Rattle.ds_model.specs.Step.{oldest_in, judged, attached, perform, step_proc, front_of, perform_lane, step_lane}
 use Rattle.ds_noninterference.specs.High.{is_in, high_lane, high_conn, trusted_key, IsTrusted}
 use Rattle.ds_noninterference.specs.Premises.{IsScheme}
@@ -168,13 +168,13 @@ module _ (s : Scheme) (c : Category) (secret : is_secrecy c.kind ≡ true) (trus
       };
       streams = all_at (λ j e. (rest : List ℕ) × (e.stream ≡ s.hello (lane_plan (host_plan plan h) j).cert ++ rest)) l (lifted_after_reply (front_of (slice_get x.queues l))) x.workers (λ j e n q. kept.streams j e q) (λ e q. kept.streams l e q);
     }
-    keep_lane_ask kept l AsksRecheck = record {
+    keep_lane_ask kept l (AsksRecheck hand) = record {
       hands = kept.hands;
       idle = λ j u v. record {
         waiting = (kept.idle j u v).waiting;
-        hand = λ q0 e0. all_at (λ j' e. high_lane c trusted plan h j' ≡ true → trusted_key trusted plan (lane_plan (host_plan plan h) j').cert.receiver ≡ false → e.hand ≡ []) l (checked_after_reply s (lane_plan (host_plan plan h) l) x.desk) x.workers (λ j' e n q u' v'. (kept.idle j' u' v').hand e q) (λ e q u' v'. checked_hand l e _) j q0 e0 u v;
+        hand = λ q0 e0. all_at (λ j' e. high_lane c trusted plan h j' ≡ true → trusted_key trusted plan (lane_plan (host_plan plan h) j').cert.receiver ≡ false → e.hand ≡ []) l (checked_after_reply s (lane_plan (host_plan plan h) l) (rechecked s x.desk hand)) x.workers (λ j' e n q u' v'. (kept.idle j' u' v').hand e q) (λ e q u' v'. checked_hand l e _) j q0 e0 u v;
       };
-      streams = all_at (λ j e. (rest : List ℕ) × (e.stream ≡ s.hello (lane_plan (host_plan plan h) j).cert ++ rest)) l (checked_after_reply s (lane_plan (host_plan plan h) l) x.desk) x.workers (λ j e n q. kept.streams j e q) (λ e q. frame_stream l e _ (kept.streams l e q));
+      streams = all_at (λ j e. (rest : List ℕ) × (e.stream ≡ s.hello (lane_plan (host_plan plan h) j).cert ++ rest)) l (checked_after_reply s (lane_plan (host_plan plan h) l) (rechecked s x.desk hand)) x.workers (λ j e n q. kept.streams j e q) (λ e q. frame_stream l e _ (kept.streams l e q));
     }
 
     pub keep_lane : KeptHost s c trusted plan h x → (l : ℕ) (o : Option Worker) → KeptHost s c trusted plan h (step_lane s (host_plan plan h) x l o)

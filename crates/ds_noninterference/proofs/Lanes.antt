@@ -5,7 +5,7 @@ use Rattle.ds_model.specs.Scheme.{Scheme}
 use Rattle.ds_model.specs.Plan.{Plan, host_plan, lane_plan}
 use Rattle.ds_model.specs.Lane.{front, lifted}
 use Rattle.ds_model.specs.World.{Waiting, Queue, Worker, Host}
-use Rattle.ds_model.specs.WorkerStep.{LaneAsk, WorkerWaits, Lifts, AsksRecheck, lane_ask, lane_ask_hand, lifted_after_reply, checked_after_reply}
+use Rattle.ds_model.specs.WorkerStep.{LaneAsk, WorkerWaits, Lifts, AsksRecheck, lane_ask, rechecked, lane_ask_hand, lifted_after_reply, checked_after_reply}
 use Rattle.ds_model.specs.Step.{lined, front_of, checked_in, perform_lane, step_lane}
 use Rattle.ds_noninterference.specs.High.{high_lane, trusted_key}
 use Rattle.ds_noninterference.specs.Alike.{Hidden, AlikeHosts}
@@ -53,13 +53,13 @@ module _ (s : Scheme) (c : Category) (trusted : List ℕ) (plan : Plan) (h : ℕ
     logs = λ l. inl refl;
     inlets = λ i. inl refl;
   }
-  quiet_hidden x l AsksRecheck hidden = record {
+  quiet_hidden x l (AsksRecheck hand) hidden = record {
     desk = refl;
     procs = λ p. inl refl;
     boxes = λ b. inl refl;
     queues = λ j. inl refl;
-    workers = one_at (λ j a b. (a ≡ b) ⊎ Hidden c trusted plan h j) l (checked_after_reply s (lane_plan (host_plan plan h) l) x.desk) x.workers (λ j n. inl refl) (inr hidden);
-    logs = one_at (λ j a b. (a ≡ b) ⊎ Hidden c trusted plan h j) l (lined (checked_in s x.desk (slice_get x.workers l))) x.logs (λ j n. inl refl) (inr hidden);
+    workers = one_at (λ j a b. (a ≡ b) ⊎ Hidden c trusted plan h j) l (checked_after_reply s (lane_plan (host_plan plan h) l) (rechecked s x.desk hand)) x.workers (λ j n. inl refl) (inr hidden);
+    logs = one_at (λ j a b. (a ≡ b) ⊎ Hidden c trusted plan h j) l (lined (checked_in (rechecked s x.desk hand) (slice_get x.workers l))) x.logs (λ j n. inl refl) (inr hidden);
     inlets = λ i. inl refl;
   }
 
@@ -76,7 +76,7 @@ module _ (s : Scheme) (c : Category) (trusted : List ℕ) (plan : Plan) (h : ℕ
   }
 
   quiet_idle : (x : Host) (l : ℕ) (e : Worker) (ms : List Waiting) → ms ≡ [] → Idle x l → AlikeHosts c trusted plan h x (perform_lane s (host_plan plan h) x l (lane_ask_hand s (lane_plan (host_plan plan h) l) e ms))
-  quiet_idle x l e [] is idle = cond_case (λ a. AlikeHosts c trusted plan h x (perform_lane s (host_plan plan h) x l a)) (s.has_leaf (lane_plan (host_plan plan h) l).signing e.leaf) Lifts WorkerWaits (λ _. lift_idle x l idle) (λ _. alike_self c trusted plan h x)
+  quiet_idle x l e [] is idle = cond_case (λ a. AlikeHosts c trusted plan h x (perform_lane s (host_plan plan h) x l a)) (s.has_lane_leaf (lane_plan (host_plan plan h) l).signing e.leaf) Lifts WorkerWaits (λ _. lift_idle x l idle) (λ _. alike_self c trusted plan h x)
   quiet_idle x l e (m ∷ ms) is idle = absurd (grind arith)
 
   pub quiet_lane : (x : Host) (l : ℕ) (o : Option Worker) → slice_get x.workers l ≡ o → IdleAbroad c trusted plan h x → high_lane c trusted plan h l ≡ true → AlikeHosts c trusted plan h x (step_lane s (host_plan plan h) x l o)
@@ -104,15 +104,15 @@ module _ (s : Scheme) (c : Category) (trusted : List ℕ) (plan : Plan) (h : ℕ
       logs = alike.logs;
       inlets = alike.inlets;
     }
-    both_lane AsksRecheck = record {
+    both_lane (AsksRecheck hand) = record {
       desk = alike.desk;
       procs = alike.procs;
       boxes = alike.boxes;
       queues = alike.queues;
-      workers = both_at (λ j a b. (a ≡ b) ⊎ Hidden c trusted plan h j) (λ j a b. (a ≡ b) ⊎ Hidden c trusted plan h j) l (checked_after_reply s (lane_plan (host_plan plan h) l) x.desk) (checked_after_reply s (lane_plan (host_plan plan h) l) y.desk) x.workers y.workers alike.workers (λ j n r. r)
-          (λ r. inl (ap₂ (λ d e. option_map (checked_after_reply s (lane_plan (host_plan plan h) l) d) e) alike.desk (seen r)));
-      logs = both_at (λ j a b. (a ≡ b) ⊎ Hidden c trusted plan h j) (λ j a b. (a ≡ b) ⊎ Hidden c trusted plan h j) l (lined (checked_in s x.desk (slice_get x.workers l))) (lined (checked_in s y.desk (slice_get y.workers l))) x.logs y.logs alike.logs (λ j n r. r)
-          (λ r. inl (ap₂ (λ lines e. option_map (lined lines) e) (ap₂ (λ d e. checked_in s d e) alike.desk (seen (alike.workers l))) (seen r)));
+      workers = both_at (λ j a b. (a ≡ b) ⊎ Hidden c trusted plan h j) (λ j a b. (a ≡ b) ⊎ Hidden c trusted plan h j) l (checked_after_reply s (lane_plan (host_plan plan h) l) (rechecked s x.desk hand)) (checked_after_reply s (lane_plan (host_plan plan h) l) (rechecked s y.desk hand)) x.workers y.workers alike.workers (λ j n r. r)
+          (λ r. inl (ap₂ (λ d e. option_map (checked_after_reply s (lane_plan (host_plan plan h) l) (rechecked s d hand)) e) alike.desk (seen r)));
+      logs = both_at (λ j a b. (a ≡ b) ⊎ Hidden c trusted plan h j) (λ j a b. (a ≡ b) ⊎ Hidden c trusted plan h j) l (lined (checked_in (rechecked s x.desk hand) (slice_get x.workers l))) (lined (checked_in (rechecked s y.desk hand) (slice_get y.workers l))) x.logs y.logs alike.logs (λ j n r. r)
+          (λ r. inl (ap₂ (λ lines e. option_map (lined lines) e) (ap₂ (λ d e. checked_in (rechecked s d hand) e) alike.desk (seen (alike.workers l))) (seen r)));
       inlets = alike.inlets;
     }
 

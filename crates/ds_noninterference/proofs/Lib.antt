@@ -6,6 +6,7 @@ pub mod ProcSteps
 pub mod Lanes
 pub mod Conns
 pub mod Setting
+pub mod Inlets
 pub mod Kept
 pub mod Events
 pub mod KeptRuns

@@ -1,25 +1,22 @@
 -- The network's two runs meet the premises of the law.
-use Rattle.std.proofs.Common.{◌≡◌, ◌≢◌, ◌<◌, ℕ, zero, suc, Bool, true, false, cond, eqb, List, [], ◌∷◌, ◌++◌, ◌&&◌, ◌||◌, Option, Some, None, slice_get, length, take, map, Contains, refl, sym, ◌∙◌, ap, subst, ◌⊎◌, inl, inr, arith}
-use Rattle.std.specs.List.{list_any, list_all}
+use Rattle.std.proofs.Common.{◌≡◌, ◌<◌, ℕ, zero, suc, Bool, true, false, cond, eqb, List, [], ◌∷◌, ◌++◌, ◌||◌, Option, Some, None, slice_get, take, map, Contains, refl, sym, ◌∙◌, ap, subst, ◌⊎◌, inl, inr, arith}
+use Rattle.std.specs.List.{list_any}
 use Rattle.ds_label.specs.declared.category.PubKey.{PubKey}
 use Rattle.ds_label.specs.declared.category.Category.{Category}
-use Rattle.ds_label.specs.Names.{same_category}
 use Rattle.ds_cert.specs.declared.delegation.Delegation.{Delegation}
 use Rattle.ds_cert.specs.declared.lane.LaneCert.{LaneCert}
-use Rattle.ds_msg.specs.declared.message.Message.{Message}
 use Rattle.ds_script.specs.declared.op.Op.{Op}
 use Rattle.ds_model.specs.Keys.{same_key}
-use Rattle.ds_model.specs.Scheme.{Item, Hello, Framed}
 use Rattle.ds_model.specs.Plan.{HostPlan, Link, OfLane, IsHost, IsLane, host_plan, conn_plan, lane_plan}
 use Rattle.ds_model.specs.ConnectionStep.{peer, hello_of}
 use Rattle.ds_model.specs.World.{Process, Queue, Worker, Conn, Host, World}
+use Rattle.ds_model.specs.Setup.{IsSetup}
 use Rattle.ds_model.specs.Step.{Event, step, arrived}
-use Rattle.ds_model.specs.Examples.OneHost.{new_conn}
 use Rattle.ds_noninterference.specs.High.{is_in, high_at, high_lane, IsTrusted}
 use Rattle.ds_noninterference.specs.Observations.{Along, marks}
 use Rattle.ds_noninterference.specs.Alike.{Alike, AlikeAt, AlikeWorlds}
-use Rattle.ds_noninterference.specs.Premises.{IsScheme, Fits, AtStart, Obeys, Unforged, NothingForged, IssuesInside}
-use Rattle.ds_noninterference.specs.Network.{a_key, b_key, x_key, secret, to_b, high_cert, low_cert, own_cert, cert_of, frames_on, items_if, items_by, net_items, names_key, net_scheme, a_host, b_host, x_host, net, both, a_world, b_world, x_world, proc, net_world, yes_script, no_script, yes_events, no_events, IsNetMet}
+use Rattle.ds_noninterference.specs.Premises.{IsScheme, Fits, Obeys, Unforged, NothingForged, IssuesInside}
+use Rattle.ds_noninterference.specs.Network.{a_key, b_key, x_key, secret, to_b, high_cert, low_cert, own_cert, cert_of, items_if, items_by, names_key, net_scheme, net, both, a_world, b_world, x_world, net_world, yes_script, no_script, yes_events, no_events, IsNetMet}
 use Rattle.ds_noninterference.proofs.Flow.{and_left, and_right, or_cases, same_key_is, same_category_is}
 
 none_some : {X : Type 0} (x : X) → None ≡ Some x → ⊥
@@ -121,8 +118,8 @@ fits = record { ends = ends; by = by; lanes = lanes }
     lanes zero l (suc (suc zero)) j is is' e n = absurd (omega arith)
     lanes zero l (suc (suc (suc g))) j is is' e n = absurd (omega arith)
 
-start : (script : List Op) → AtStart net_scheme net (net_world script)
-start script = record { procs = procs; queues = queues; workers = workers; conns = conns }
+start : (script : List Op) → IsSetup net_scheme net (net_world script)
+start script = record { conn_plans = λ k h l e. (fits.ends k h l e).0; procs = procs; queues = queues; workers = workers; conns = conns }
   where
     procs : (h : ℕ) (x : Host) (p : ℕ) (y : Process) → slice_get (net_world script).hosts h ≡ Some x → slice_get x.procs p ≡ Some y → y.hand ≡ None
     procs zero x p y e f = one p (ap (λ (u : Host). slice_get u.procs p) (some_is _ x e) ∙ f)
@@ -165,10 +162,10 @@ start script = record { procs = procs; queues = queues; workers = workers; conns
     workers (suc (suc zero)) x l w e f = absurd (none_some w (ap (λ (u : Host). slice_get u.workers l) (some_is _ x e) ∙ f))
     workers (suc (suc (suc h))) x l w e f = absurd (none_some x e)
 
-    conns : (k : ℕ) (y : Conn) → slice_get (net_world script).conns k ≡ Some y → y.passed ≡ None
-    conns zero y e = ap (λ (u : Conn). u.passed) (sym (some_is _ y e))
-    conns (suc zero) y e = ap (λ (u : Conn). u.passed) (sym (some_is _ y e))
-    conns (suc (suc zero)) y e = ap (λ (u : Conn). u.passed) (sym (some_is _ y e))
+    conns : (k : ℕ) (y : Conn) → slice_get (net_world script).conns k ≡ Some y → (y.hand ≡ []) × (y.passed ≡ None)
+    conns zero y e = (ap (λ (u : Conn). u.hand) (sym (some_is _ y e)), ap (λ (u : Conn). u.passed) (sym (some_is _ y e)))
+    conns (suc zero) y e = (ap (λ (u : Conn). u.hand) (sym (some_is _ y e)), ap (λ (u : Conn). u.passed) (sym (some_is _ y e)))
+    conns (suc (suc zero)) y e = (ap (λ (u : Conn). u.hand) (sym (some_is _ y e)), ap (λ (u : Conn). u.passed) (sym (some_is _ y e)))
     conns (suc (suc (suc k))) y e = absurd (none_some y e)
 
 -- what stays along the runs: the stores, what was issued, and the link's bytes
@@ -224,7 +221,7 @@ data IsOutsiders : List ℕ → Type 0 where
   nothing : IsOutsiders []
   own : (rest : List ℕ) → IsOutsiders (3 ∷ rest)
 
-outsiders_peer : (bytes : List ℕ) (lane : LaneCert) → IsOutsiders bytes → peer net_scheme b_host bytes ≡ Some lane → own_cert ≡ lane
+outsiders_peer : (bytes : List ℕ) (lane : LaneCert) → IsOutsiders bytes → peer net_scheme (host_plan net 1) bytes ≡ Some lane → own_cert ≡ lane
 outsiders_peer bytes lane nothing e = absurd (none_some lane e)
 outsiders_peer bytes lane (own rest) e = some_is own_cert lane e
 
@@ -238,7 +235,7 @@ by_a byte rest lane = go (eqb byte 1) (eqb byte 2) (eqb byte 3)
     go false false true e = none_some lane e
     go false false false e = none_some lane e
 
-a_peer : (bytes : List ℕ) (lane : LaneCert) → peer net_scheme a_host bytes ≡ Some lane → ⊥
+a_peer : (bytes : List ℕ) (lane : LaneCert) → peer net_scheme (host_plan net 0) bytes ≡ Some lane → ⊥
 a_peer [] lane e = none_some lane e
 a_peer (byte ∷ rest) lane e = by_a byte rest lane e
 
@@ -261,8 +258,8 @@ nothing_forged w bytes stays outs = record {
   stores = λ g y d there m about good by.
       let a : (x : Host) × (slice_get w.hosts 0 ≡ Some x) × (x.desk.issued ≡ to_b ∷ []) = map_at (λ x. x.desk.issued) w.hosts 0 (to_b ∷ []) (ap (λ o. slice_get o 0) stays.issued) in
       (0, a.0, refl, a.1, subst (λ z. Contains z d) (sym a.2) (subst (λ z. Contains (to_b ∷ []) z) (kept_is g y.desk.store d (sym (ap (λ o. slice_get o g) stays.stores) ∙ at_map (λ u. u.desk.store) w.hosts g y there) m) (in_head to_b [])));
-  certs = λ k y lane there source read by. absurd (not_x (subst (λ z. IsTrusted both net z.exporter) (sym (link_peer w bytes stays outs k y lane there source read)) by));
-  frames = λ k y lane j number messages there source read frame h l high same. high_key h l high (ap (λ z. z.key) (link_peer w bytes stays outs k y lane there source read) ∙ same);
+  certs = λ k y lane there source read taken by. absurd (not_x (subst (λ z. IsTrusted both net z.exporter) (sym (link_peer w bytes stays outs k y lane there source read)) by));
+  frames = λ k y lane j number messages there source read frame taken h l high same. high_key h l high (ap (λ z. z.key) (link_peer w bytes stays outs k y lane there source read) ∙ same);
 }
   where
     not_x : IsTrusted both net x_key → ⊥
@@ -326,15 +323,17 @@ unfolding Rattle.ds_label.specs.Flow.flows Rattle.ds_label.specs.Flow.same_label
 same_marks = refl
 
 pub met : IsNetMet
-met = record {
-  scheme = scheme;
-  secret = refl;
-  fits = fits;
-  start_one = start yes_script;
-  start_two = start no_script;
-  agree = record { start = alike; same_marks = same_marks };
-  obeys_one = obeys (net_world yes_script) yes_events yes_along;
-  obeys_two = obeys (net_world no_script) no_events no_along;
-  unforged_one = unforged (net_world yes_script) yes_events yes_along;
-  unforged_two = unforged (net_world no_script) no_events no_along;
-}
+met = (
+  scheme,
+  record {
+    secret = refl;
+    fits = fits;
+    start_one = start yes_script;
+    start_two = start no_script;
+    agree = record { start = alike; same_marks = same_marks };
+    obeys_one = obeys (net_world yes_script) yes_events yes_along;
+    obeys_two = obeys (net_world no_script) no_events no_along;
+    unforged_one = unforged (net_world yes_script) yes_events yes_along;
+    unforged_two = unforged (net_world no_script) no_events no_along;
+  },
+)

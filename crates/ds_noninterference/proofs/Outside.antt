@@ -1,7 +1,6 @@
 -- Worlds that are equal but for what is high have equal sections outside.
-use Rattle.std.proofs.Common.{◌≡◌, ◌<◌, ℕ, zero, suc, Bool, true, false, List, [], ◌∷◌, ◌++◌, ◌||◌, Option, Some, None, slice_get, take, length, refl, sym, ◌∙◌, ap, ap₂, ◌⊎◌, inl, inr, arith, eq-eqb}
+use Rattle.std.proofs.Common.{◌≡◌, ℕ, Bool, true, false, List, [], ◌∷◌, ◌++◌, Option, Some, None, slice_get, take, length, refl, sym, ◌∙◌, ap, ap₂, ◌⊎◌, inl, inr, arith}
 use Rattle.std.specs.Prelude.{if◌then◌else◌}
-use native.Mathlib.Decide.{ℕ_discrete}
 use Rattle.ds_label.specs.declared.category.Category.{Category}
 use Rattle.ds_label.specs.Names.{is_secrecy}
 use Rattle.ds_model.specs.Scheme.{Scheme}
@@ -9,30 +8,17 @@ use Rattle.ds_model.specs.Plan.{Plan, host_plan, conn_plan}
 use Rattle.ds_model.specs.World.{Queue, Worker, LaneLine, Conn, Host, World}
 use Rattle.ds_model.specs.Step.{arrived, run}
 use Rattle.ds_model.specs.Views.{proc_in}
-use Rattle.ds_noninterference.specs.High.{is_in, high_at, high_lane, high_conn, HighInlet}
+use Rattle.ds_noninterference.specs.High.{is_in, high_at, high_lane, high_conn, high_inlet}
 use Rattle.ds_noninterference.specs.Alike.{Alike, Hidden, AlikeHosts, AlikeAt, AlikeWorlds}
 use Rattle.ds_noninterference.specs.Premises.{IsScheme}
 use Rattle.ds_model.specs.Text.{Format, section, lane_section, sections, host_sections, sections_at, conn_section, conn_sections}
-use Rattle.ds_noninterference.specs.Outside.{some_place, high_inlet, high_box_in, high_hidden, outside_sections}
+use Rattle.ds_noninterference.specs.Outside.{high_box_in, high_hidden, outside_sections}
 use Rattle.ds_noninterference.specs.Law.{AtEnd, SameSections}
 use Rattle.ds_noninterference.proofs.Views.{gathered_same, laws}
-use Rattle.ds_noninterference.proofs.Flow.{and_both, or_left, or_right, not_both, key_same}
+use Rattle.ds_noninterference.proofs.Flow.{not_both}
 use Rattle.ds_noninterference.proofs.Events.{same_conns, same_stream}
 use Rattle.ds_noninterference.proofs.Relation.{high_same, box_same}
-use Rattle.ds_noninterference.proofs.Setting.{Setting, lane_within, host_within, setting}
-
-some_place_true : (test : ℕ → Bool) (n m : ℕ) → n < m → test n ≡ true → some_place test m ≡ true
-some_place_true test n zero lt e = absurd (grind arith)
-some_place_true test n (suc m) lt e = go (some_place_true test n m) (ℕ_discrete n m)
-  where
-    go : (n < m → test n ≡ true → some_place test m ≡ true) → Dec (n ≡ m) → (test m || some_place test m) ≡ true
-    go ih (yes is) = or_left _ _ (ap test (sym is) ∙ e)
-    go ih (no n') = or_right _ _ (ih (omega arith) e)
-
-inlet_high : (c : Category) (trusted : List ℕ) (plan : Plan) (r i : ℕ) → HighInlet c trusted plan r i → high_inlet c trusted plan r i ≡ true
-inlet_high c trusted plan r i hi = and_both _ _ hi.here (some_place_true _ hi.host (length plan.hosts) (host_within c trusted plan hi.host hi.lane hi.high)
-    (some_place_true _ hi.lane (length (host_plan plan hi.host).lanes) (lane_within c trusted plan hi.host hi.lane hi.high)
-    (and_both _ _ hi.high (and_both _ _ (key_same _ _ hi.to) (and_both _ _ (key_same _ _ hi.by) (eq-eqb _ _ hi.number))))))
+use Rattle.ds_noninterference.proofs.Setting.{Setting, setting}
 
 -- sections that are hidden alike, and equal where they aren't hidden
 sections_same : (hidden hidden' : ℕ → Bool) (text text' : ℕ → List (List ℕ)) (n : ℕ) → ((i : ℕ) → hidden i ≡ hidden' i) → ((i : ℕ) → hidden i ≡ false → text i ≡ text' i) → sections hidden text n ≡ sections hidden' text' n
@@ -53,9 +39,9 @@ module _ (s : Scheme) (c : Category) (secret : is_secrecy c.kind ≡ true) (trus
   shown h l low (inl e) = e
   shown h l low (inr hidden) = absurd (not_both _ hidden.high low)
 
-  shown_inlet : (h i : ℕ) {X : Type 0} {x y : X} → high_inlet c trusted plan h i ≡ false → (x ≡ y) ⊎ HighInlet c trusted plan h i → x ≡ y
+  shown_inlet : (h i : ℕ) {X : Type 0} {x y : X} → high_inlet c trusted plan h i ≡ false → (x ≡ y) ⊎ (high_inlet c trusted plan h i ≡ true) → x ≡ y
   shown_inlet h i low (inl e) = e
-  shown_inlet h i low (inr hi) = absurd (not_both _ (inlet_high c trusted plan h i hi) low)
+  shown_inlet h i low (inr hi) = absurd (not_both _ hi low)
 
   same_lane_text : (h l : ℕ) {q q' : Option Queue} {e e' : Option Worker} {g g' : Option (List LaneLine)} → q ≡ q' → e ≡ e' → g ≡ g' → lane_section (f.lane h l) q e g ≡ lane_section (f.lane h l) q' e' g'
   same_lane_text h l u v w = λ i. lane_section (f.lane h l) (u i) (v i) (w i)
@@ -105,4 +91,4 @@ module _ (s : Scheme) (c : Category) (secret : is_secrecy c.kind ≡ true) (trus
         (sections_same _ _ _ _ (length plan.conn_plans) (λ k. refl) same_conn_sections))
 
 pub outside : AtEnd SameSections
-outside s c trusted plan v w one two p f = same_outside s c p.secret trusted plan p.scheme (setting s c trusted plan v one p.fits p.obeys_one) f (run s plan v one) (run s plan w two) (laws s c trusted plan v w one two p)
+outside s c trusted plan v w one two is p f = same_outside s c p.secret trusted plan is (setting s c trusted plan v one p.fits p.obeys_one) f (run s plan v one) (run s plan w two) (laws s c trusted plan v w one two is p)

@@ -1,9 +1,9 @@
 -- Only an owner of the category releases.
-use Rattle.std.proofs.Common.{◌≡◌, ℕ, Bool, true, false, cond, List, [], ◌∷◌, ◌&&◌, ◌||◌, Option, Some, None, slice_get, refl, sym, ◌∙◌, ap, subst, ◌⊎◌, inl, inr, arith}
+use Rattle.std.proofs.Common.{◌≡◌, ℕ, Bool, true, false, cond, List, [], ◌∷◌, ◌||◌, Option, Some, None, slice_get, option_map, refl, sym, ◌∙◌, ap, subst, ◌⊎◌, inl, inr, arith}
 use Rattle.ds_label.specs.declared.category.Category.{Category}
 use Rattle.ds_label.specs.declared.rule.Rule.{Rule}
 use Rattle.ds_label.specs.declared.rule.Rule.TheVariants.{NotPublic}
-use Rattle.ds_label.specs.Flow.{has, flows, union}
+use Rattle.ds_label.specs.Flow.{has, union}
 use Rattle.ds_label.specs.Names.{is_secrecy, by_name}
 use Rattle.ds_script.specs.declared.op.Op.{Op}
 use Rattle.ds_script.specs.declared.op.Op.TheVariants as ops
@@ -13,7 +13,7 @@ use Rattle.ds_model.specs.Keys.{same_key}
 use Rattle.ds_model.specs.ProcessRules.{can_grant}
 use Rattle.ds_model.specs.Scheme.{Scheme}
 use Rattle.ds_model.specs.Plan.{HostPlan, Plan, host_plan, conn_plan}
-use Rattle.ds_model.specs.Desk.{Act, Reply, act_entry, reply_of, Ticked, desk_after}
+use Rattle.ds_model.specs.Desk.{Act, act_entry, reply_of, Ticked, desk_after}
 use Rattle.ds_model.specs.World.{Process, Mail, Conn, Host, World}
 use Rattle.ds_model.specs.ProcessStep.{Ask, Waits, Internal, Put, Admit, TakeFrom, PublicAct, AsksJudgement, box_of, Target, Not, Into, judge_box, send_rule, send_here, send_away, message_of, take_rule, take_from, relabel, make, publish, publish_rule, ask_outer, ask_inner, lane_of, queue_at, ask_hand, ask, taken_after_reply, act_after_reply, judged_after_reply}
 use Rattle.ds_model.specs.WorkerStep.{LaneAsk, WorkerWaits, Lifts, AsksRecheck, lane_ask}
@@ -21,10 +21,9 @@ use Rattle.ds_model.specs.ConnectionStep.{ConnAsk, ConnWaits, ConnInternal, Asks
 use Rattle.ds_model.specs.Step.{Event, Step, Frame, Arrive, Accept, Deliver, Tick, Inject, Copy, arrived, oldest_in, judged, attached, perform, step_proc, perform_lane, step_lane, perform_conn, step_conn, ticked, on_host, resolve, happens, step, run}
 use Rattle.ds_model.specs.Views.{proc_in, proc_at}
 use Rattle.ds_noninterference.specs.High.{is_in, high_proc, high_lane, high_conn}
-use Rattle.ds_noninterference.specs.Observations.{Released, Mark, Release, High, Low, unless_has, ToBox, ToLane, released, mark_released, mark_proc, high_or, mark_of}
-use Rattle.ds_noninterference.specs.Premises.{AtStart}
-use Rattle.ds_noninterference.specs.Owners.{OnlyOwnersRelease}
-use Rattle.ds_model.proofs.Places.{cond_case, some_is, none_some}
+use Rattle.ds_noninterference.specs.Observations.{Released, Release, Low, unless_has, ToBox, ToLane, released, mark_released, mark_proc, high_or, mark_of}
+use Rattle.ds_noninterference.specs.Owners.{OnlyOwnersRelease, OnlyOwnersAct}
+use Rattle.ds_model.proofs.Places.{at_here, cond_case, some_is, none_some}
 use Rattle.ds_noninterference.proofs.Flow.{and_right, or_cases, flows_carries}
 use Rattle.ds_noninterference.proofs.Asks.{first_none, unless_none}
 use Rattle.ds_noninterference.proofs.Kept.{all_at, each_none}
@@ -164,7 +163,7 @@ module _ (c : Category) (secret : is_secrecy c.kind ≡ true) where
     lane_owned : (hp : HostPlan) (x : Host) (l : ℕ) (a : LaneAsk) → OwnedHost x → OwnedHost (perform_lane s hp x l a)
     lane_owned hp x l WorkerWaits old = old
     lane_owned hp x l Lifts old = old
-    lane_owned hp x l AsksRecheck old = old
+    lane_owned hp x l (AsksRecheck hand) old = old
 
     conn_owned : (hp : HostPlan) (x : Host) (y : Conn) (a : ConnAsk) → OwnedHost x → OwnedHost (perform_conn s hp x y a).host
     conn_owned hp x y ConnWaits old = old
@@ -262,3 +261,27 @@ module _ (c : Category) (secret : is_secrecy c.kind ≡ true) where
 pub only_owners : OnlyOwnersRelease
 only_owners s c trusted plan start events e h p r secret setup is =
     by_mark c secret trusted plan (run s plan start events) (run_owned c secret s plan start events (λ g x there q y acts. empty_owned c secret y (setup.procs g x q y there acts))) (resolve plan (run s plan start events) e) h p r is
+
+-- a step that changes the desk is a public act
+module _ (c : Category) (secret : is_secrecy c.kind ≡ true) (s : Scheme) (plan : HostPlan) (x : Host) (p : ℕ) (y : Process) where
+  act_owns : (a : Ask) → OwnFacts c secret y a → ((perform s plan x p a).desk ≡ x.desk → ⊥) → has by_name c y.label ≡ true → has by_name c y.own ≡ true
+  act_owns Waits f n l = absurd (n refl)
+  act_owns (Internal next) f n l = absurd (n refl)
+  act_owns (Put b m next) f n l = absurd (n refl)
+  act_owns (Admit i m next) f n l = absurd (n refl)
+  act_owns (TakeFrom b reg slot) f n l = absurd (n refl)
+  act_owns (PublicAct act reg host) f n l = f.1 l
+  act_owns (AsksJudgement m) f n l = absurd (n refl)
+
+pub only_owners_act : OnlyOwnersAct
+only_owners_act s plan w h p y c there moved secret label = go (slice_get w.hosts h) refl there
+  where
+    go : (o : Option Host) → slice_get w.hosts h ≡ o → proc_in o p ≡ Some y → has by_name c y.own ≡ true
+    go None e acts = absurd (none_some y acts)
+    go (Some x) e acts = act_owns c secret s (host_plan plan h) x p y (ask (host_plan plan h) p y) (own_facts c secret (host_plan plan h) p y) still label
+      where
+        after : slice_get (step s plan w (Step h p)).hosts h ≡ Some (perform s (host_plan plan h) x p (ask (host_plan plan h) p y))
+        after = at_here h (λ x'. step_proc s (host_plan plan h) x' p (slice_get x'.procs p)) w.hosts ∙ (ap (option_map (λ x'. step_proc s (host_plan plan h) x' p (slice_get x'.procs p))) e ∙ ap (λ q. Some (step_proc s (host_plan plan h) x p q)) acts)
+
+        still : (perform s (host_plan plan h) x p (ask (host_plan plan h) p y)).desk ≡ x.desk → ⊥
+        still same = moved (ap (option_map (λ u. u.desk)) after ∙ (ap Some same ∙ sym (ap (option_map (λ u. u.desk)) e)))

@@ -6,7 +6,7 @@ use Rattle.ds_label.specs.Flow.{has}
 use Rattle.ds_label.specs.Names.{by_name}
 use Rattle.ds_model.specs.Keys.{same_key}
 use Rattle.ds_model.specs.Scheme.{Scheme}
-use Rattle.ds_model.specs.Plan.{Plan, OfLane, IsHost, IsLane, host_plan, conn_plan, lane_plan, no_host, no_lane}
+use Rattle.ds_model.specs.Plan.{Plan, OfLane, IsHost, IsLane, host_plan, conn_plan, lane_plan, no_host, no_lane, all_keys, with_keys}
 use Rattle.ds_model.specs.World.{World}
 use Rattle.ds_model.specs.Step.{Event, step}
 use Rattle.ds_noninterference.specs.High.{is_in, high_lane, trusted_key, IsTrusted}
@@ -64,7 +64,7 @@ pub lane_within : (c : Category) (trusted : List ℕ) (plan : Plan) (h l : ℕ) 
 lane_within c trusted plan h l high = within l (length (host_plan plan h).lanes) (λ past. has_none c (sym (ap (λ p. has by_name c p.cert.label) (get_or_past (host_plan plan h).lanes l no_lane past)) ∙ and_right _ _ high))
 
 pub host_within : (c : Category) (trusted : List ℕ) (plan : Plan) (h l : ℕ) → high_lane c trusted plan h l ≡ true → IsHost plan h
-host_within c trusted plan h l high = within h (length plan.hosts) (λ past. has_none c (sym (ap (λ p. has by_name c (lane_plan p l).cert.label) (get_or_past plan.hosts h no_host past)) ∙ and_right _ _ high))
+host_within c trusted plan h l high = within h (length plan.hosts) (λ past. has_none c (sym (ap (λ p. has by_name c (lane_plan (with_keys (all_keys plan) p) l).cert.label) (get_or_past plan.hosts h no_host past)) ∙ and_right _ _ high))
 
 pub setting : (s : Scheme) (c : Category) (trusted : List ℕ) (plan : Plan) (w : World) (events : List Event) → Fits plan → Obeys s c trusted plan w events → Setting c trusted plan
 setting s c trusted plan w events fits obeys = record {

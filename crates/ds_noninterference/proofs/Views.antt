@@ -76,21 +76,21 @@ module _ (s : Scheme) (c : Category) (secret : is_secrecy c.kind ≡ true) (trus
 
 -- the worlds at the end are equal but for what is high
 pub laws : AtEnd AlikeWorlds
-laws s c trusted plan v w one two p =
+laws s c trusted plan v w one two is p =
     let fits : Setting c trusted plan = setting s c trusted plan v one p.fits p.obeys_one in
-    law s c p.secret trusted plan p.scheme fits one two v w p.agree.start
-    (start_kept s c p.secret trusted plan p.scheme fits v p.start_one) (start_kept s c p.secret trusted plan p.scheme fits w p.start_two)
+    law s c p.secret trusted plan is fits one two v w p.agree.start
+    (start_kept s c p.secret trusted plan is fits v p.start_one) (start_kept s c p.secret trusted plan is fits w p.start_two)
     (sound_along s c trusted plan v one p.obeys_one.issues p.unforged_one) (sound_along s c trusted plan w two p.obeys_two.issues p.unforged_two)
     p.agree.same_marks
 
 pub processes : AtEnd SameProcesses
-processes s c trusted plan v w one two p = proc_views s c p.secret trusted plan p.scheme (setting s c trusted plan v one p.fits p.obeys_one) (run s plan v one) (run s plan w two) (laws s c trusted plan v w one two p)
+processes s c trusted plan v w one two is p = proc_views s c p.secret trusted plan is (setting s c trusted plan v one p.fits p.obeys_one) (run s plan v one) (run s plan w two) (laws s c trusted plan v w one two is p)
 
 pub hosts : AtEnd SameHosts
-hosts s c trusted plan v w one two p = host_views s c p.secret trusted plan p.scheme (setting s c trusted plan v one p.fits p.obeys_one) (run s plan v one) (run s plan w two) (laws s c trusted plan v w one two p)
+hosts s c trusted plan v w one two is p = host_views s c p.secret trusted plan is (setting s c trusted plan v one p.fits p.obeys_one) (run s plan v one) (run s plan w two) (laws s c trusted plan v w one two is p)
 
 pub desks : AtEnd SameDesks
-desks s c trusted plan v w one two p = desk_views s c p.secret trusted plan p.scheme (setting s c trusted plan v one p.fits p.obeys_one) (run s plan v one) (run s plan w two) (laws s c trusted plan v w one two p)
+desks s c trusted plan v w one two is p = desk_views s c p.secret trusted plan is (setting s c trusted plan v one p.fits p.obeys_one) (run s plan v one) (run s plan w two) (laws s c trusted plan v w one two is p)
 
 pub arrivals : AtEnd SameArrivals
-arrivals s c trusted plan v w one two p = arrived_views s c p.secret trusted plan p.scheme (setting s c trusted plan v one p.fits p.obeys_one) (run s plan v one) (run s plan w two) (laws s c trusted plan v w one two p)
+arrivals s c trusted plan v w one two is p = arrived_views s c p.secret trusted plan is (setting s c trusted plan v one p.fits p.obeys_one) (run s plan v one) (run s plan w two) (laws s c trusted plan v w one two is p)

@@ -5,7 +5,7 @@ use Rattle.ds_model.specs.Lists.{Everywhere}
 use Rattle.ds_model.specs.Plan.{HostPlan, Plan, host_plan, lane_plan}
 use Rattle.ds_model.specs.Inlet.{Inlet}
 use Rattle.ds_model.specs.World.{Process, Mailbox, Host, World}
-use Rattle.ds_noninterference.specs.High.{is_in, high_at, high_box, high_lane, high_conn, HighInlet, IsTrusted}
+use Rattle.ds_noninterference.specs.High.{is_in, high_at, high_box, high_lane, high_conn, high_inlet, IsTrusted}
 
 -- equal, or both high
 abbrev pub Alike : {X : Type 0} → (a b : Bool) → X → X → Type 0
@@ -21,7 +21,8 @@ abbrev pub AlikeProcs : Category → (t : Bool) → List Process → List Proces
 AlikeProcs c t = Everywhere (λ p x y. Alike (high_at c t x) (high_at c t y) x y)
 
 -- mailboxes, likewise
-abbrev pub AlikeBoxes : Category → (t : Bool) → HostPlan → List Process → List Process → List Mailbox → List Mailbox → Type 0
+abbrev pub AlikeBoxes : Category → (t : Bool) → HostPlan → List Process → List Process → List Mailbox → List Mailbox →
+    Type 0
 AlikeBoxes c t plan ps qs = Everywhere (λ b x y. Alike (high_box c t plan ps b) (high_box c t plan qs b) x y)
 
 -- equal, or on a lane that may differ
@@ -30,7 +31,7 @@ AlikeLanes c trusted plan h = Everywhere (λ l x y. (x ≡ y) ⊎ Hidden c trust
 
 -- inlets, equal or high
 abbrev pub AlikeInlets : Category → List ℕ → Plan → (host : ℕ) → List Inlet → List Inlet → Type 0
-AlikeInlets c trusted plan h = Everywhere (λ i x y. (x ≡ y) ⊎ HighInlet c trusted plan h i)
+AlikeInlets c trusted plan h = Everywhere (λ i x y. (x ≡ y) ⊎ (high_inlet c trusted plan h i ≡ true))
 
 -- a host in two worlds: its desk is equal, all else equal but for what is high
 pub record AlikeHosts (c : Category) (trusted : List ℕ) (plan : Plan) (h : ℕ) (x y : Host) : Type 0 where

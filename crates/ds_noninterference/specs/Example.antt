@@ -5,12 +5,13 @@ use Rattle.ds_script.specs.declared.op.Op.{Op}
 use Rattle.ds_script.specs.declared.op.Op.TheVariants as ops
 use Rattle.ds_script.specs.declared.note.Note.{Note}
 use Rattle.ds_script.specs.declared.note.Note.TheVariants as notes
-use Rattle.ds_model.specs.Plan.{HostPlan, BoxPlan, Plan, no_signing}
+use Rattle.ds_model.specs.Plan.{HostSetup, BoxPlan, Plan, no_signing}
 use Rattle.ds_model.specs.World.{Process, World}
 use Rattle.ds_model.specs.Step.{Event, Step, run}
 use Rattle.ds_model.specs.Views.{proc_at}
-use Rattle.ds_model.specs.Examples.OneHost.{empty_scheme, only_key, a_secret, a_mail}
-use Rattle.ds_noninterference.specs.Observations.{Release, ToBox, Low, marks}
+use Rattle.ds_model.specs.Examples.OneHost.{one_host, one_process, empty_scheme, only_key, a_secret, a_mail}
+use Rattle.ds_noninterference.specs.Observations.{Release, ToBox, Low, marks, High, mark}
+use Rattle.ds_noninterference.specs.Premises.{IsScheme}
 use Rattle.ds_noninterference.specs.Law.{Premises}
 
 -- a host with two processes and a mailbox of the second, without a label
@@ -18,8 +19,8 @@ abbrev pub public_box : BoxPlan
 public_box = record { slot = 1; owner = 1; label = []; room = 4 }
 
 -- the host
-abbrev pub pair_host : HostPlan
-pair_host = record { key = only_key; silent = false; signing = no_signing; keys = only_key ∷ []; procs = 2; boxes = public_box ∷ []; lanes = []; inlets = [] }
+abbrev pub pair_host : HostSetup
+pair_host = record { key = only_key; silent = false; signing = no_signing; procs = 2; boxes = public_box ∷ []; lanes = []; inlets = [] }
 
 -- the plan of that host alone
 abbrev pub pair : Plan
@@ -66,11 +67,15 @@ second_events = Step 0 0 ∷ Step 0 0 ∷ Step 0 0 ∷ Step 0 0 ∷ Step 0 1 ∷
 
 -- they meet the premises
 abbrev pub PremisesHold : Type 0
-PremisesHold = Premises empty_scheme a_secret (0 ∷ []) pair (pair_world first_script) (pair_world second_script) first_events second_events
+PremisesHold = IsScheme empty_scheme pair × Premises empty_scheme a_secret (0 ∷ []) pair (pair_world first_script) (pair_world second_script) first_events second_events
 
 -- the marks of both runs: the release, and the steps of the second process
 abbrev pub IsMarked : Type 0
 IsMarked = marks empty_scheme a_secret (0 ∷ []) pair (pair_world first_script) first_events ≡ Release 0 0 (ToBox 0 a_mail) ∷ Low (Step 0 1) ∷ Low (Step 0 1) ∷ []
+
+-- a step of an owner of the secret is high, also where its label hasn't the secret
+abbrev pub IsOwnerHigh : Type 0
+IsOwnerHigh = mark a_secret (0 ∷ []) one_host (one_process first_script [] (a_secret ∷ [])) (Step 0 0) ≡ High
 
 -- what a process has noted at the end
 abbrev pub notes_in : List Op → List Event → (proc : ℕ) → Option (List Note)

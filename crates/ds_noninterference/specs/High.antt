@@ -1,6 +1,7 @@
--- What is high for a secrecy category and a list of trusted hosts: all that may know what the category protects, on hosts
--- that may know it. What is high stays high: ownership isn't lost, and a category leaves a label only where it is owned.
-use Rattle.std.specs.Prelude.{◌≡◌, ℕ, Bool, true, false, ◌&&◌, ◌||◌, ◌==◌, List, Option, Some, None, slice_get}
+-- What is high for a secrecy category and a list of trusted hosts: all that may know what the category protects, on
+-- hosts that may know it. What is high stays high: ownership isn't lost, and a category leaves a label only where it
+-- is owned.
+use Rattle.std.specs.Prelude.{◌≡◌, ℕ, zero, suc, Bool, true, false, ◌&&◌, ◌||◌, ◌==◌, List, Option, Some, None, length, slice_get}
 use Rattle.ds_label.specs.declared.category.PubKey.{PubKey}
 use Rattle.ds_label.specs.declared.category.Category.{Category}
 use Rattle.std.specs.List.{list_any}
@@ -40,15 +41,23 @@ high_source c trusted plan r (OfLane h l) = high_lane c trusted plan h l && is_i
 abbrev pub high_conn : Category → List ℕ → Plan → (conn : ℕ) → Bool
 high_conn c trusted plan k = high_source c trusted plan (conn_plan plan k).host (conn_plan plan k).source
 
+-- one of the first so many places passes
+abbrev pub some_place : (ℕ → Bool) → ℕ → Bool
+some_place test zero = false
+some_place test (suc n) = test n || some_place test n
+
+-- inlet i of host r counts the frames of lane l of host h, which leads to r
+abbrev pub counts_lane : Plan → (r i h l : ℕ) → Bool
+counts_lane plan r i h l =
+    same_key (lane_plan (host_plan plan h) l).cert.receiver (host_plan plan r).key
+    && (same_key (lane_plan (host_plan plan h) l).cert.exporter (inlet_name (host_plan plan r) i).exporter
+    && ((lane_plan (host_plan plan h) l).cert.lane == (inlet_name (host_plan plan r) i).lane))
+
 -- an inlet of a trusted host that counts the frames of a high lane to it
-pub record HighInlet (c : Category) (trusted : List ℕ) (plan : Plan) (r i : ℕ) : Type 0 where
-  pub host : ℕ
-  pub lane : ℕ
-  pub high : high_lane c trusted plan host lane ≡ true
-  pub here : is_in trusted r ≡ true
-  pub to : (lane_plan (host_plan plan host) lane).cert.receiver ≡ (host_plan plan r).key
-  pub by : (lane_plan (host_plan plan host) lane).cert.exporter ≡ (inlet_name (host_plan plan r) i).exporter
-  pub number : (lane_plan (host_plan plan host) lane).cert.lane ≡ (inlet_name (host_plan plan r) i).lane
+abbrev pub high_inlet : Category → List ℕ → Plan → (host inlet : ℕ) → Bool
+high_inlet c trusted plan r i =
+    is_in trusted r
+    && some_place (λ h. some_place (λ l. high_lane c trusted plan h l && counts_lane plan r i h l) (length (host_plan plan h).lanes)) (length plan.hosts)
 
 -- whether a key is that of a trusted host
 abbrev pub trusted_key : List ℕ → Plan → PubKey → Bool

@@ -1,7 +1,7 @@
 -- Two runs over a network that meet the premises of the law: two trusted hosts with a high lane between them, a host that
 -- isn't trusted, to which a low lane leads, and a link to a trusted host on which an outsider writes. In place of signatures
 -- and spelling stands a toy: a hello is one byte, and a frame is its number and the byte of its message.
-use Rattle.std.specs.Prelude.{◌≡◌, ℕ, Bool, true, false, ◌&&◌, ◌||◌, ◌==◌, List, [], ◌∷◌, ◌++◌, Option, Some, None, option_map, replicate, slice_get, if◌then◌else◌}
+use Rattle.std.specs.Prelude.{◌≡◌, ℕ, Bool, true, false, ◌&&◌, ◌||◌, ◌==◌, List, [], ◌∷◌, ◌++◌, Option, Some, None, option_map, replicate, if◌then◌else◌}
 use Rattle.std.specs.List.{list_any}
 use Rattle.ds_label.specs.declared.category.Kind.TheVariants.{Secrecy}
 use Rattle.ds_label.specs.declared.category.PubKey.{PubKey}
@@ -16,14 +16,15 @@ use Rattle.ds_cert.specs.declared.lane.LaneCert.{LaneCert}
 use Rattle.ds_msg.specs.declared.message.Message.{Message}
 use Rattle.ds_model.specs.Keys.{same_key}
 use Rattle.ds_model.specs.Scheme.{Scheme, Item, Hello, Framed}
-use Rattle.ds_model.specs.Plan.{HostPlan, Plan, Link, OfLane, no_signing}
+use Rattle.ds_model.specs.Plan.{HostSetup, Plan, Link, OfLane, no_signing}
 use Rattle.ds_model.specs.Desk.{Desk}
 use Rattle.ds_model.specs.World.{Process, Worker, Host, World}
-use Rattle.ds_model.specs.Step.{Event, Step, Frame, Arrive, Accept, Deliver, Tick, Inject, Copy, run}
+use Rattle.ds_model.specs.Step.{Event, Step, Frame, Arrive, Accept, Deliver, Tick, Inject, run}
 use Rattle.ds_model.specs.Views.{proc_at}
 use Rattle.ds_model.specs.Examples.OneHost.{empty_scheme, new_conn}
 use Rattle.ds_model.specs.Examples.TwoHosts.{an_address}
 use Rattle.ds_noninterference.specs.Observations.{Mark, Release, ToLane, Low, marks}
+use Rattle.ds_noninterference.specs.Premises.{IsScheme}
 use Rattle.ds_noninterference.specs.Law.{Premises}
 
 -- the keys of the two trusted hosts and of the other one
@@ -35,9 +36,6 @@ b_key = record { 0 = 98 ∷ [] }
 
 abbrev pub x_key : PubKey
 x_key = record { 0 = 120 ∷ [] }
-
-abbrev pub all_keys : List PubKey
-all_keys = a_key ∷ b_key ∷ x_key ∷ []
 
 -- the first host's secret, which it delegated to the second
 abbrev pub secret : Category
@@ -104,6 +102,7 @@ net_scheme = record empty_scheme {
   holds = λ certs moment c key. same_key key c.creator || list_any (names_key c key) certs;
   find = λ addresses moment key. Some an_address;
   has_leaf = λ signing leaf. true;
+  has_lane_leaf = λ signing leaf. true;
   hello = λ lane. (if lane.lane == 1 then 2 else 1) ∷ [];
   frame = λ signing leaf messages. leaf ∷ byte_of messages ∷ [];
   items = λ key inlets stream. net_items key stream;
@@ -111,14 +110,14 @@ net_scheme = record empty_scheme {
 
 -- THE PLAN
 
-abbrev pub a_host : HostPlan
-a_host = record { key = a_key; silent = false; signing = no_signing; keys = all_keys; procs = 1; boxes = []; lanes = record { cert = high_cert; signing = no_signing; room = 4 } ∷ record { cert = low_cert; signing = no_signing; room = 4 } ∷ []; inlets = [] }
+abbrev pub a_host : HostSetup
+a_host = record { key = a_key; silent = false; signing = no_signing; procs = 1; boxes = []; lanes = record { cert = high_cert; signing = no_signing; room = 4 } ∷ record { cert = low_cert; signing = no_signing; room = 4 } ∷ []; inlets = [] }
 
-abbrev pub b_host : HostPlan
-b_host = record { key = b_key; silent = false; signing = no_signing; keys = all_keys; procs = 2; boxes = record { slot = 1; owner = 0; label = secret ∷ []; room = 4 } ∷ record { slot = 2; owner = 1; label = []; room = 4 } ∷ []; lanes = []; inlets = record { exporter = a_key; lane = 1 } ∷ record { exporter = x_key; lane = 9 } ∷ [] }
+abbrev pub b_host : HostSetup
+b_host = record { key = b_key; silent = false; signing = no_signing; procs = 2; boxes = record { slot = 1; owner = 0; label = secret ∷ []; room = 4 } ∷ record { slot = 2; owner = 1; label = []; room = 4 } ∷ []; lanes = []; inlets = record { exporter = a_key; lane = 1 } ∷ record { exporter = x_key; lane = 9 } ∷ [] }
 
-abbrev pub x_host : HostPlan
-x_host = record { key = x_key; silent = false; signing = no_signing; keys = all_keys; procs = 1; boxes = record { slot = 1; owner = 0; label = []; room = 4 } ∷ []; lanes = []; inlets = record { exporter = a_key; lane = 2 } ∷ [] }
+abbrev pub x_host : HostSetup
+x_host = record { key = x_key; silent = false; signing = no_signing; procs = 1; boxes = record { slot = 1; owner = 0; label = []; room = 4 } ∷ []; lanes = []; inlets = record { exporter = a_key; lane = 2 } ∷ [] }
 
 -- the high lane's connection, the low one's, and a link to the second host
 abbrev pub net : Plan
@@ -177,7 +176,7 @@ abbrev pub no_events : List Event
 no_events = (Step 0 0 ∷ Step 0 0 ∷ Step 0 0 ∷ Step 0 0 ∷ Step 0 0 ∷ Arrive 0 1 ∷ []) ++ (attack ++ (Frame 0 0 ∷ Frame 0 0 ∷ Accept 0 ∷ letting_out))
 
 abbrev pub IsNetMet : Type 0
-IsNetMet = Premises net_scheme secret both net (net_world yes_script) (net_world no_script) yes_events no_events
+IsNetMet = IsScheme net_scheme net × Premises net_scheme secret both net (net_world yes_script) (net_world no_script) yes_events no_events
 
 -- the release, whole
 abbrev pub let_out : Message

@@ -4,8 +4,8 @@
 
 ghost use Rattle.ds_noninterference.specs.Alike.{AlikeWorlds};
 ghost use Rattle.ds_noninterference.specs.Law.{AtEnd, SameProcesses, SameHosts, SameDesks, SameArrivals, SameSections};
-ghost use Rattle.ds_noninterference.specs.Example.{PremisesHold, IsMarked, IsPrinted};
-ghost use Rattle.ds_noninterference.specs.Owners.{OnlyOwnersRelease};
+ghost use Rattle.ds_noninterference.specs.Example.{PremisesHold, IsMarked, IsOwnerHigh, IsPrinted};
+ghost use Rattle.ds_noninterference.specs.Owners.{OnlyOwnersAct, OnlyOwnersRelease};
 ghost use Rattle.ds_noninterference.specs.Network.{IsNetMet, IsNetMarked, IsNetSeen};
 
 /// Two runs, from worlds that are equal but for what is high, whose marks agree, of trusted hosts that obey, with nothing
@@ -26,12 +26,16 @@ pub fn two_runs()
 pub fn an_example()
     ensures met { PremisesHold }
     ensures marked { IsMarked }
+    // An owner of the secret is high, whatever its label.
+    ensures owner { IsOwnerHigh }
     ensures printed { IsPrinted }
 {}
 
-/// At each event of each run from setup, a process that releases owns the category.
+/// At each event of each run from setup, a process that releases owns the category; and in any world one whose step changes
+/// its host's desk owns each secrecy category of its label.
 pub fn only_owners_release()
-    ensures { OnlyOwnersRelease }
+    ensures releases { OnlyOwnersRelease }
+    ensures acts { OnlyOwnersAct }
 {}
 
 /// Two runs over a network with an outsider, computed.

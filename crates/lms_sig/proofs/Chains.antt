@@ -1,16 +1,7 @@
 -- Chains of hashes, a step at a time and a run at a time.
-use Rattle.std.proofs.Common.{◌≡◌, ℕ, zero, suc, ◌+◌, ◌-◌, ◌≤◌, List, [], ◌++◌, refl, ap, add-one, append_assoc, append-nil, arith}
+use Rattle.std.proofs.Common.{◌≡◌, ℕ, zero, suc, ◌+◌, List, [], ◌++◌, refl, add-one, append_assoc, append-nil, arith}
 use Rattle.lms_sig.specs.Strings.{joined}
-use Rattle.lms_sig.specs.OneTime.{step, steps}
-
--- one more step
-pub steps-more : (I : List ℕ) (q i j k : ℕ) (tmp : List ℕ) → j ≤ k →
-    steps I q i j (k + 1 - j) tmp ≡ step I q i k (steps I q i j (k - j) tmp)
-unfolding steps
-steps-more I q i j k tmp le =
-    let count : k + 1 - j ≡ suc (k - j) = omega arith in
-    let place : j + (k - j) ≡ k = omega arith in
-    rw count (ap (λ n. step I q i n (steps I q i j (k - j) tmp)) place)
+use Rattle.lms_sig.specs.OneTime.{steps}
 
 -- one run after another
 pub steps-add : (I : List ℕ) (q i j m n : ℕ) (tmp : List ℕ) →

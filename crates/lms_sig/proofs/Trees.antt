@@ -6,6 +6,8 @@ use Rattle.lms_sig.specs.TreeNodes.{HoldsFrom, IsNode}
 use Rattle.lms_sig.specs.Merkle.{T, inner, leaf, sibling}
 use Rattle.lms_sig.specs.OneTime.{K}
 use Rattle.lms_sig.specs.Parameters.{height, leaf_count}
+use Rattle.lms_sig.specs.declared.params.LmsType.{LmsType}
+use Rattle.lms_sig.specs.declared.params.LmsType.TheVariants.{H5, H10}
 use Rattle.lms_sig.specs.declared.params.Params.{Params}
 
 -- a level more has twice as many nodes
@@ -107,6 +109,11 @@ leaf-step params SEED I nodes q value size below before same r from to =
       | inr other ↦
           rw (get_or-set_other nodes (leaf_count params.lms + q) r value [] other) (before r from (omega arith))
     ]
+
+-- leaves come in whole eights
+pub whole_eights : (t : LmsType) → 8 * (leaf_count t / 8) ≡ leaf_count t
+whole_eights H5 = refl
+whole_eights H10 = refl
 
 -- once all leaves are there, the nodes from the first leaf on are
 pub leaves-all : (params : Params) (SEED I : List ℕ) (nodes : List (List ℕ)) (q : ℕ) → leaf_count params.lms ≤ q →

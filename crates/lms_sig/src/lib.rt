@@ -3,18 +3,19 @@
 //!
 //! A host's secret gives a seed and an identifier (`derive`), these make a tree (`TreeKey::make`), the
 //! tree has a public key and signs one message at each leaf (`public`, `sign_at`), and anyone tests a
-//! signature (`verify`). Which leaf is used when is the caller's matter.
+//! signature (`verify`). Which leaf is used when is the caller's matter. Chains run eight at a time, one in each lane of
+//! a vector (`sha_lanes`): for a tree those of eight leaves, for a signature its longest first, so that few lanes idle.
 #![tactic(auto)]
 
 mod chain;
 mod derivation;
 mod hash;
+mod lanes;
 mod law;
+mod leaves;
 mod one_time;
 mod params;
 mod path;
-#[cfg(test)]
-mod tests;
 mod tree;
 mod verifying;
 

@@ -1,32 +1,57 @@
 //! LM-OTS one-time keys and signatures (RFC 8554, section 4).
 
-ghost use Rattle.std.specs.Prelude.{◌≡◌, ◌++◌, ◌+◌, ◌*◌, ◌/◌, ◌<◌, ◌≤◌, OnOk, length, take, drop};
-ghost use Rattle.lms_sig.specs.OneTime.{Cksm, K, Kc, Q, ots_signature, y};
+ghost use Rattle.std.specs.Prelude.{◌≡◌, ◌++◌, ◌+◌, ◌*◌, ◌/◌, ◌<◌, ◌≤◌, OnOk, ℕ, [], length, slice_index, slice_index_or, take, drop};
+ghost use Rattle.lms_sig.specs.OneTime.{Cksm, Kc, Q, ots_signature, y};
 ghost use Rattle.lms_sig.specs.Parameters.{chain_length, digit_count, ots_length, width};
-ghost use Rattle.lms_sig.specs.Strings.{coef, joined, u16str};
+ghost use Rattle.lms_sig.specs.Strings.{coef, joined, part, u16str};
 
-use crate::chain::{chain, randomiser, secret};
+use crate::chain::randomiser;
 use crate::hash::{prefix, put, u16_bytes, u32_bytes, value_at};
+use crate::lanes::{ROOM, ends, secrets};
 use crate::params::OtsType;
 use sha2::{Digest, Sha256};
 use std::alloc::AllocError;
 
-const PUBLIC: u16 = 0x8080;
+pub(crate) const PUBLIC: u16 = 0x8080;
 
 const MESSAGE: u16 = 0x8181;
 
-// The one-time public key of leaf `q`.
-pub(crate) fn one_time_key(ots: OtsType, seed: &[u8; 32], id: &[u8; 16], q: u32) -> [u8; 32]
-    ensures { result ≡ K ots seed.now id.now q }
+// How many steps whole chains have; there are none in the places behind them.
+fn tops(ots: OtsType) -> [u8; ROOM]
+    ensures each { (i : ℕ) → i < digit_count ots → slice_index result i ≡ chain_length ots }
+    ensures behind { (i : ℕ) → digit_count ots ≤ i → slice_index result i ≡ 0 }
 {
     let top = ots.chain_length();
-    let mut hasher = Sha256::new();
-    hasher.update(&prefix(id, q, PUBLIC));
-    'chains: for i in 0..ots.digit_count() {
-        let start = secret(seed, id, q, i);
-        hasher.update(&chain(id, q, i, 0, top, &start));
+    let mut out = [0u8; ROOM];
+    'places: for i in 0..ots.digit_count() as usize {
+        out[i] = top;
     }
-    hasher.finalize()
+    out
+}
+
+// The digits of a message's hash and its checksum; none in the places behind them.
+fn digits_of(ots: OtsType, digits: &[u8; 34]) -> [u8; ROOM]
+    ensures each { (i : ℕ) → i < digit_count ots → slice_index result i ≡ coef digits.now i (width ots) }
+    ensures bound { (i : ℕ) → i < digit_count ots → slice_index result i ≤ chain_length ots }
+    ensures behind { (i : ℕ) → digit_count ots ≤ i → slice_index result i ≡ 0 }
+{
+    let mut out = [0u8; ROOM];
+    'places: for i in 0..ots.digit_count() as usize {
+        out[i] = coefficient(ots, digits, i);
+    }
+    out
+}
+
+// The values of a one-time signature.
+fn values_of(ots: OtsType, values: &[u8]) -> [[u8; 32]; ROOM]
+    requires { length values.now ≡ 32 * digit_count ots }
+    ensures { (i : ℕ) → i < digit_count ots → slice_index_or result i [] ≡ part values.now (32 * i) 32 }
+{
+    let mut out = [[0u8; 32]; ROOM];
+    'places: for i in 0..ots.digit_count() as usize {
+        out[i] = value_at(values, i);
+    }
+    out
 }
 
 // Digit `i` of some bytes.
@@ -96,10 +121,15 @@ fn put_ys(
         ++ joined (y ots seed.now id.now q hash.now) (digit_count ots)) }
 {
     let digits = with_checksum(ots, hash);
+    let ends = ends(
+        id,
+        q,
+        &[0; ROOM],
+        &digits_of(ots, &digits),
+        &secrets(seed, id, q),
+    );
     'chains: for i in 0..ots.digit_count() {
-        let steps = coefficient(ots, &digits, i as usize);
-        let start = secret(seed, id, q, i);
-        out.extend_from_slice(&chain(id, q, i, 0, steps, &start))?;
+        out.extend_from_slice(&ends[i as usize])?;
     }
     Ok(())
 }
@@ -137,13 +167,17 @@ pub(crate) fn candidate_key(
     let hash = message_hash(id, q, &signature[4..36], message);
     let digits = with_checksum(ots, &hash);
     let values = &signature[36..];
-    let top = ots.chain_length();
+    let ends = ends(
+        id,
+        q,
+        &digits_of(ots, &digits),
+        &tops(ots),
+        &values_of(ots, values),
+    );
     let mut hasher = Sha256::new();
     hasher.update(&prefix(id, q, PUBLIC));
     'chains: for i in 0..ots.digit_count() {
-        let taken = coefficient(ots, &digits, i as usize);
-        let value = value_at(values, i as usize);
-        hasher.update(&chain(id, q, i, taken, top, &value));
+        hasher.update(&ends[i as usize]);
     }
     hasher.finalize()
 }

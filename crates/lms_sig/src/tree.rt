@@ -1,14 +1,15 @@
 //! A signing key that keeps every node of its tree (RFC 8554, section 5 and appendix C).
 
-ghost use Rattle.std.specs.Prelude.{◌≡◌, ◌+◌, ◌*◌, ◌<◌, ◌++◌, IfOk, OnOk, List, ℕ, length};
+ghost use Rattle.std.specs.Prelude.{◌≡◌, ◌+◌, ◌*◌, ◌<◌, ◌≤◌, ◌++◌, [], IfOk, OnOk, List, ℕ, length, slice_index_or};
 ghost use Rattle.lms_sig.specs.Keys.{Key};
-ghost use Rattle.lms_sig.specs.Merkle.{path, public_key, signature};
+ghost use Rattle.lms_sig.specs.Merkle.{T, path, public_key, signature};
 ghost use Rattle.lms_sig.specs.Parameters.{height, leaf_count};
 ghost use Rattle.lms_sig.specs.TreeNodes.{HoldsFrom, IsTree};
 ghost use Rattle.lms_sig.specs.declared.params.Params.{Params};
 
 use crate::hash::{inner_hash, leaf_hash, put, u32_bytes};
-use crate::one_time::{one_time_key, put_one_time};
+use crate::leaves::eight_keys;
+use crate::one_time::put_one_time;
 use crate::params::Params;
 use crate::path::sibling_of;
 use std::alloc::{AllocError, Global};
@@ -33,15 +34,31 @@ impl Model for TreeKey {
     ghost invariant = { λ a. IsTree a.params a.seed a.id a.nodes.items };
 }
 
+// Writes eight leaves of a tree, from leaf `first` on, into the second half of its nodes.
+fn put_leaves(nodes: &mut [[u8; 32]], params: Params, seed: &[u8; 32], id: &[u8; 16], first: u32)
+    requires size { length nodes.old ≡ 2 * leaf_count params.lms }
+    requires leaves { first + 8 ≤ leaf_count params.lms }
+    ensures size { length nodes.new ≡ 2 * leaf_count params.lms }
+    ensures leaves { ((r : ℕ) → leaf_count params.lms ≤ r → r < leaf_count params.lms + first
+        → slice_index_or nodes.old r [] ≡ T params seed.now id.now 0 r)
+        → (r : ℕ) → leaf_count params.lms ≤ r → r < leaf_count params.lms + (first + 8)
+        → slice_index_or nodes.new r [] ≡ T params seed.now id.now 0 r }
+{
+    let leaves = params.lms.leaf_count();
+    let keys = eight_keys(params.ots, seed, id, first);
+    'lanes: for l in 0..8 {
+        let q = first + l;
+        nodes[(leaves + q) as usize] = leaf_hash(id, leaves + q, &keys[l as usize]);
+    }
+}
+
 // Writes the leaves of a tree into the second half of its nodes.
 fn fill_leaves(nodes: &mut [[u8; 32]], params: Params, seed: &[u8; 32], id: &[u8; 16])
     requires { length nodes.old ≡ 2 * leaf_count params.lms }
     ensures { HoldsFrom params seed.now id.now nodes.new (leaf_count params.lms) }
 {
-    let leaves = params.lms.leaf_count();
-    'leaves: for q in 0..leaves {
-        let key = one_time_key(params.ots, seed, id, q);
-        nodes[(leaves + q) as usize] = leaf_hash(id, leaves + q, &key);
+    'eights: for group in 0..params.lms.leaf_count() / 8 {
+        put_leaves(nodes, params, seed, id, 8 * group);
     }
 }
 

@@ -13,6 +13,6 @@ pub enum SignFault {
     #[error("the keeper failed to raise the mark")]
     KeeperFault,
     /// There was no memory for the signature.
-    #[error("memory ran out")]
+    #[error("out of memory")]
     NoMemory,
 }

@@ -1,7 +1,7 @@
 //! A key and its next leaf.
 #![tactic(auto)]
 
-ghost use Rattle.std.specs.Prelude.{◌≡◌, ◌+◌, ◌-◌, ◌≤◌, ◌↔◌, ◌⊎◌, ℕ, List, ◌∷◌, Option, Some, IfOk, IfErr, OnOk, OnErr, Err, MatchResult};
+ghost use Rattle.std.specs.Prelude.{◌≡◌, ◌+◌, ◌-◌, ◌≤◌, ◌↔◌, ◌⊎◌, ℕ, List, ◌∷◌, length, Option, Some, IfOk, IfErr, OnOk, OnErr, Err, MatchResult};
 ghost use Rattle.ds_base.specs.Counts.{Rose};
 ghost use Rattle.ds_base.specs.Marks.{Raised, MayBeRaised};
 ghost use Rattle.lms_sig.specs.Merkle.{public_key};
@@ -16,8 +16,8 @@ use std::marker::Model;
 
 /// A signing key, and the leaf at which it signs next. Leaves are spent in order, each once.
 ///
-/// The keeper holds, under the key's identifier, the number of leaves that may be spent. No two signers of one key may
-/// be alive at a time.
+/// The keeper holds, under the key's identifier, the number of leaves that may be spent. No two signers of one identifier
+/// may be alive at a time: the four types of one secret and index share a mark and one-time keys.
 #[derive(Drop)]
 pub struct Signer {
     key: TreeKey,
@@ -69,7 +69,7 @@ impl Signer {
     }
 
     /// The signature of a message at the next leaf. The mark is raised past that leaf before the signature is handed
-    /// out, so that a signer that is resumed later doesn't sign there again.
+    /// out, so that a signer that is resumed later doesn't sign there again. A signature has at most 2,508 bytes.
     ///
     /// # Errors
     ///
@@ -79,9 +79,11 @@ impl Signer {
     ///   same, and then a signer that is resumed leaves this leaf out.
     ///
     /// The signer is unchanged after each of them, and so is the keeper after the first two.
+    #[tactic(auto, using(crate::proofs::Lengths::short_signature))]
     pub fn sign<K: Keeper>(&mut self, keeper: &mut K, message: &[u8]) -> Result<Vec<u8>, SignFault>
         ensures faults { K.faults keeper.old ≤ K.faults keeper.new }
         ensures ok { IfOk result (λ made. made.items ≡ next_signature self.old message.now) }
+        ensures short { IfOk result (λ made. length made.items ≤ 2508) }
         ensures next { OnOk result (self.new ≡ one_leaf_on self.old) }
         ensures raised { OnOk result (Raised (K.tells keeper.old) self.old.key.id (self.old.next + 1) (K.tells keeper.new)) }
         ensures err { OnErr result (self.new ≡ self.old) }

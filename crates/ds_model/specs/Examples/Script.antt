@@ -9,7 +9,7 @@ use Rattle.ds_script.specs.declared.op.Op.{Op}
 use Rattle.ds_script.specs.declared.op.Op.TheVariants as ops
 use Rattle.ds_script.specs.declared.note.Note.{Note}
 use Rattle.ds_script.specs.declared.note.Note.TheVariants as notes
-use Rattle.ds_model.specs.Plan.{HostPlan, Plan}
+use Rattle.ds_model.specs.Plan.{HostSetup, Plan}
 use Rattle.ds_model.specs.Mailbox.{PutIn, FoundFull, TookOut}
 use Rattle.ds_model.specs.World.{Mail, World}
 use Rattle.ds_model.specs.Step.{run}
@@ -20,16 +20,12 @@ use Rattle.ds_model.specs.Examples.OneHost.{empty_scheme, only_key, only_host, o
 abbrev pub far_key : PubKey
 far_key = record { 0 = 255 ∷ [] }
 
-abbrev pub far_host : HostPlan
-far_host = record only_host { key = far_key; silent = true; keys = only_key ∷ far_key ∷ []; procs = 0; boxes = [] }
+abbrev pub far_host : HostSetup
+far_host = record only_host { key = far_key; silent = true; procs = 0; boxes = [] }
 
--- the process's own host
-abbrev pub near_host : HostPlan
-near_host = record only_host { keys = only_key ∷ far_key ∷ [] }
-
--- both, without a connection
+-- the process's own host and that one, without a connection
 abbrev pub near_and_far : Plan
-near_and_far = record { hosts = near_host ∷ far_host ∷ []; conn_plans = [] }
+near_and_far = record { hosts = only_host ∷ far_host ∷ []; conn_plans = [] }
 
 -- categories of both hosts
 abbrev pub near : Kind → ℕ → Category

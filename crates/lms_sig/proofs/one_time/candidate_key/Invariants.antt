@@ -6,4 +6,4 @@ use Rattle.lms_sig.proofs.one_time.candidate_key.Given as goal
 
 abbrev pub invariant-chains : goal.invariant-chains
 invariant-chains l = Holds256 l.hasher (l.id ++ u32str l.q ++ u16str d_pblc
-    ++ joined (z l.ots l.id l.q (Q l.id l.q (part l.signature 4 32) l.message) (drop 36 l.signature)) l.i)
+    ++ joined (z l.fn.ots l.id l.q (Q l.id l.q (part l.signature 4 32) l.message) (drop 36 l.signature)) l.i)
