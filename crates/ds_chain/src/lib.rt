@@ -25,6 +25,3 @@ pub use fault::{ADDRESS_LIMIT, CERT_LIMIT, ListFault};
 pub use edge::Edge;
 pub use edge_list::EdgeList;
 pub use laws::{chain_laws, delegation_laws};
-
-#[cfg(test)]
-mod tests;

@@ -27,6 +27,3 @@ pub use laws::{
 pub use reader::FrameReader;
 pub use reading::item_of;
 pub use writing::{frame_bytes, frame_part, hello_bytes};
-
-#[cfg(test)]
-mod tests;

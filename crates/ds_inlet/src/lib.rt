@@ -2,16 +2,12 @@
 #![tactic(auto)]
 
 mod conn;
-#[cfg(test)]
-mod conn_tests;
 mod entry;
 mod hosts;
 mod laws;
 mod names;
 mod offer;
 mod state;
-#[cfg(test)]
-mod tests;
 
 pub use conn::Conn;
 pub use entry::{InletAct, InletEntry, InletSegment};

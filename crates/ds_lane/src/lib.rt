@@ -9,8 +9,6 @@ mod framing;
 mod lane_end;
 mod worker_entry;
 mod state;
-#[cfg(test)]
-mod tests;
 
 pub use batch::{BodyBatch, Waiting};
 pub use entry::{LaneAct, LaneEntry, LaneSegment};
