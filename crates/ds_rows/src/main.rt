@@ -51,48 +51,78 @@ fn is_among(row: &Row<'_>, groups: &str) -> bool {
 fn answer(row: &mut Row<'_>, rt: &HostRuntime, names: &mut Names) {
     if is_among(row, "let tree show") {
         names::row(row, names);
-    } else if is_among(row, "wire") {
-        rows_wire::row(row, names);
-    } else if is_among(row, "label numbers rules") {
-        rows_label::row(row, names);
-    } else if is_among(row, "outside") {
-        rows_base::row(row, rt, names);
-    } else if is_among(row, "script load fits actors") {
-        rows_script::row(row, names);
-    } else if is_among(row, "verify verify-each verify-keys signer") {
-        rows_sig::row(row, names);
-    } else if is_among(row, "read fronts good") {
-        rows_cert::row(row, names);
-    } else if is_among(row, "stream frame hello causes") {
-        rows_frame::row(row, names);
-    } else if is_among(row, "edges ladder chain store addresses") {
-        rows_chain::row(row, names);
-    } else {
-        answer_above(row, names);
+        return;
     }
+    if is_among(row, "wire") {
+        rows_wire::row(row, names);
+        return;
+    }
+    if is_among(row, "label numbers rules") {
+        rows_label::row(row, names);
+        return;
+    }
+    if is_among(row, "outside") {
+        rows_base::row(row, rt, names);
+        return;
+    }
+    if is_among(row, "script load fits actors") {
+        rows_script::row(row, names);
+        return;
+    }
+    if is_among(row, "verify verify-each verify-keys signer") {
+        rows_sig::row(row, names);
+        return;
+    }
+    if is_among(row, "read fronts good") {
+        rows_cert::row(row, names);
+        return;
+    }
+    if is_among(row, "stream frame hello causes") {
+        rows_frame::row(row, names);
+        return;
+    }
+    if is_among(row, "edges ladder chain store addresses") {
+        rows_chain::row(row, names);
+        return;
+    }
+    answer_above(row, names);
 }
 
 /// The same for the parts of a host.
 fn answer_above(row: &mut Row<'_>, names: &mut Names) {
     if is_among(row, "map") {
         rows_map::row(row, names);
-    } else if is_among(row, "monitor") {
-        rows_monitor::row(row);
-    } else if is_among(row, "desk") {
-        rows_desk::row(row, names);
-    } else if is_among(row, "flow") {
-        rows_flow::row(row, names);
-    } else if is_among(row, "given signs keeper") {
-        rows_command::row(row, names);
-    } else if is_among(row, "mailbox") {
-        rows_box::row(row);
-    } else if is_among(row, "lane") {
-        rows_lane::row(row);
-    } else if is_among(row, "inlet connection copies cuts") {
-        rows_inlet::row(row, names);
-    } else {
-        row.bad();
+        return;
     }
+    if is_among(row, "monitor") {
+        rows_monitor::row(row);
+        return;
+    }
+    if is_among(row, "desk") {
+        rows_desk::row(row, names);
+        return;
+    }
+    if is_among(row, "flow") {
+        rows_flow::row(row, names);
+        return;
+    }
+    if is_among(row, "given signs keeper") {
+        rows_command::row(row, names);
+        return;
+    }
+    if is_among(row, "mailbox") {
+        rows_box::row(row);
+        return;
+    }
+    if is_among(row, "lane") {
+        rows_lane::row(row);
+        return;
+    }
+    if is_among(row, "inlet connection copies cuts") {
+        rows_inlet::row(row, names);
+        return;
+    }
+    row.bad();
 }
 
 /// Appends what a line is answered.

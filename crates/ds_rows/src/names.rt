@@ -280,13 +280,15 @@ fn tree(row: &mut Row<'_>, names: &mut Names) {
 pub(crate) fn row(row: &mut Row<'_>, names: &mut Names) {
     if row.fits("let _ = ..") {
         lets(row, names);
-    } else if row.fits("tree _ = _ _ _") {
+        return;
+    }
+    if row.fits("tree _ = _ _ _") {
         tree(row, names);
-    } else {
-        let bytes = pieces(row.alloc, names, row.rest(1));
-        if let Some(bytes) = row.got(bytes) {
-            row.say_hex(&bytes);
-        }
+        return;
+    }
+    let bytes = pieces(row.alloc, names, row.rest(1));
+    if let Some(bytes) = row.got(bytes) {
+        row.say_hex(&bytes);
     }
 }
 

@@ -221,6 +221,11 @@ impl<'a> Row<'a> {
         }
     }
 
+    /// Says a number of four bytes.
+    pub(crate) fn say_small(&mut self, value: u32) {
+        self.say_number(value as u64);
+    }
+
     /// Says bytes in hex.
     pub(crate) fn say_hex(&mut self, bytes: &[u8]) {
         if bytes.is_empty() {

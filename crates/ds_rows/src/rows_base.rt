@@ -160,14 +160,16 @@ fn source(row: &mut Row<'_>, names: &Names) {
         let mut source = CalmSource::new(row.bytes(names, 3));
         let times = row.small(5, 9);
         takes(row, &mut source, times);
-    } else if row.fits("_ _ fails _ _ takes _") {
+        return;
+    }
+    if row.fits("_ _ fails _ _ takes _") {
         let calls = row.numbers(3);
         let mut source = MemSource::new(row.bytes(names, 4), calls);
         let times = row.small(6, 9);
         takes(row, &mut source, times);
-    } else {
-        takes(row, &mut ReadSource::new(Broken { calls: 0 }), 3);
+        return;
     }
+    takes(row, &mut ReadSource::new(Broken { calls: 0 }), 3);
 }
 
 fn sink(row: &mut Row<'_>) {
@@ -179,23 +181,25 @@ fn sink(row: &mut Row<'_>) {
         puts(row, &mut sink, times);
         row.say("holds");
         row.say_hex(sink.written());
-    } else if row.is(2, "calm") {
-        puts(row, &mut CalmSink::new(), 1);
-    } else {
-        puts(row, &mut WriteSink::new(Broken { calls: 0 }), 3);
+        return;
     }
+    if row.is(2, "calm") {
+        puts(row, &mut CalmSink::new(), 1);
+        return;
+    }
+    puts(row, &mut WriteSink::new(Broken { calls: 0 }), 3);
 }
 
 fn keeper(row: &mut Row<'_>) {
     if row.fits("_ _ calm raises _") {
         let marks = row.numbers(4);
         raises(row, &mut CalmKeeper::new(), &marks);
-    } else {
-        let (calls, kept) = (row.numbers(3), row.numbers(5));
-        let mut keeper = MemKeeper::new(Vec::new(row.alloc), calls, kept);
-        let marks = row.numbers(7);
-        raises(row, &mut keeper, &marks);
+        return;
     }
+    let (calls, kept) = (row.numbers(3), row.numbers(5));
+    let mut keeper = MemKeeper::new(Vec::new(row.alloc), calls, kept);
+    let marks = row.numbers(7);
+    raises(row, &mut keeper, &marks);
 }
 
 fn wire(row: &mut Row<'_>) {
@@ -214,21 +218,33 @@ fn wire(row: &mut Row<'_>) {
 pub(crate) fn row(row: &mut Row<'_>, rt: &HostRuntime, names: &Names) {
     if row.is(1, "source") {
         source(row, names);
-    } else if row.is(1, "sink") {
+        return;
+    }
+    if row.is(1, "sink") {
         sink(row);
-    } else if row.is(1, "keeper") {
+        return;
+    }
+    if row.is(1, "keeper") {
         keeper(row);
-    } else if row.is(1, "wire") {
+        return;
+    }
+    if row.is(1, "wire") {
         wire(row);
-    } else if row.is(1, "clock") {
+        return;
+    }
+    if row.is(1, "clock") {
         NoGate.pass(3);
         let moment = row.number(2);
         row.say_number(FixedClock::new(moment).now());
-    } else if row.is(1, "text") {
-        text(row, rt);
-    } else if row.is(1, "files") {
-        files(row, rt, ".");
-    } else {
-        files(row, rt, "new");
+        return;
     }
+    if row.is(1, "text") {
+        text(row, rt);
+        return;
+    }
+    if row.is(1, "files") {
+        files(row, rt, ".");
+        return;
+    }
+    files(row, rt, "new");
 }

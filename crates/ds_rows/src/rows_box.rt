@@ -107,17 +107,23 @@ fn say_state(row: &mut Row<'_>, mailbox: &BoxState) {
 fn operate(row: &mut Row<'_>, mailbox: &mut BoxState, place: usize) {
     if row.is(place, "take") {
         take(row, mailbox);
-    } else if row.is(place, "checkpoint") {
+        return;
+    }
+    if row.is(place, "checkpoint") {
         checkpoint(row, mailbox);
-    } else if row.is(place, "history") {
+        return;
+    }
+    if row.is(place, "history") {
         say_entries(row, mailbox.history());
-    } else if row.is(place, "state") {
+        return;
+    }
+    if row.is(place, "state") {
         say_state(row, mailbox);
-    } else {
-        let says = row.byte(place);
-        if put(mailbox, row.alloc, says).is_err() {
-            row.full();
-        }
+        return;
+    }
+    let says = row.byte(place);
+    if put(mailbox, row.alloc, says).is_err() {
+        row.full();
     }
 }
 

@@ -141,9 +141,11 @@ pub(crate) fn row(row: &mut Row<'_>, names: &Names) {
     let bytes = row.bytes(names, 2);
     if row.is(0, "read") {
         reads(row, &bytes);
-    } else if row.is(0, "fronts") {
-        fronts(row, &bytes);
-    } else {
-        says_good(row, &bytes);
+        return;
     }
+    if row.is(0, "fronts") {
+        fronts(row, &bytes);
+        return;
+    }
+    says_good(row, &bytes);
 }

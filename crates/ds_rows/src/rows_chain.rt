@@ -223,22 +223,32 @@ fn address(row: &mut Row<'_>, names: &Names) {
 pub(crate) fn row(row: &mut Row<'_>, names: &Names) {
     if row.is(0, "edges") {
         edges(row);
-    } else if row.is(0, "ladder") {
+        return;
+    }
+    if row.is(0, "ladder") {
         ladder(row);
-    } else if row.is(0, "chain") {
+        return;
+    }
+    if row.is(0, "chain") {
         chain(row, names);
-    } else if row.fits("store _ fills _ then _") {
+        return;
+    }
+    if row.fits("store _ fills _ then _") {
         let named = row.category(names, 1);
         let (count, last) = (row.small(3, 300), row.number(5));
         fills(row, named, count, last);
-    } else if row.is(0, "store") {
+        return;
+    }
+    if row.is(0, "store") {
         let list = store(row, names, 1);
         row.say_number(list.len() as u64);
-    } else if row.fits("addresses _ fills _ then _") {
+        return;
+    }
+    if row.fits("addresses _ fills _ then _") {
         let front = row.bytes(names, 1);
         let (count, last) = (row.small(3, 300), row.number(5));
         fills_addresses(row, &front, count, last);
-    } else {
-        address(row, names);
+        return;
     }
+    address(row, names);
 }

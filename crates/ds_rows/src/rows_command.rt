@@ -132,19 +132,25 @@ fn given(row: &mut Row<'_>, names: &mut Names, place: usize) -> Option<Vec<u8>> 
 pub(crate) fn row(row: &mut Row<'_>, names: &mut Names) {
     if row.fits("given _ dstar ..") {
         let _ = given(row, names, 3);
-    } else if row.fits("given _ as _ dstar ..") {
+        return;
+    }
+    if row.fits("given _ as _ dstar ..") {
         if let Some(bytes) = given(row, names, 5) {
             let kept = names.keep(row.alloc, row.word(3), bytes);
             let _ = row.got(kept);
         }
-    } else if row.is(0, "signs") {
+        return;
+    }
+    if row.is(0, "signs") {
         signs(row, names);
-    } else if row.is(1, "mark") {
+        return;
+    }
+    if row.is(1, "mark") {
         let (id, mark) = (row.bytes(names, 2), row.number(3));
         raise_to(row, &mut names.keeper, &id, mark);
-    } else {
-        let (calls, kept) = (row.numbers(2), row.numbers(4));
-        names.keeper = MemKeeper::new(Vec::new(row.alloc), calls, kept);
-        row.say("new");
+        return;
     }
+    let (calls, kept) = (row.numbers(2), row.numbers(4));
+    names.keeper = MemKeeper::new(Vec::new(row.alloc), calls, kept);
+    row.say("new");
 }

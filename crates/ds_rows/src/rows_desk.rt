@@ -160,16 +160,20 @@ fn calls(row: &mut Row<'_>, names: &Names, desk: &mut DeskState, keeper: &mut Me
     if row.is(1, "ticks") {
         let (first, second) = (row.number(2), row.number(3));
         ticks(row, desk, first, second);
-    } else if row.is(1, "maps") {
+        return;
+    }
+    if row.is(1, "maps") {
         let name = row.category(names, 2);
         maps(row, desk, name);
-    } else if row.is(1, "imports") {
+        return;
+    }
+    if row.is(1, "imports") {
         let cert = row.bytes(names, 2);
         imports(row, desk, &cert);
-    } else {
-        let (named, to) = (row.category(names, 2), row.key(names, 3));
-        delegates(row, desk, keeper, named, to);
+        return;
     }
+    let (named, to) = (row.category(names, 2), row.key(names, 3));
+    delegates(row, desk, keeper, named, to);
 }
 
 /// `desk ticks A B`, `desk maps CATEGORY`, `desk delegates CATEGORY KEY by TYPES mark M`, `desk imports CERT`. Then it says

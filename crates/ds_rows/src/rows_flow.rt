@@ -119,11 +119,15 @@ fn attaches(row: &mut Row<'_>, names: &Names) {
 pub(crate) fn row(row: &mut Row<'_>, names: &Names) {
     if row.is(1, "arrives") {
         arrives(row, names);
-    } else if row.is(1, "mailbox") {
-        mailbox(row);
-    } else if row.is(1, "attaches") {
-        attaches(row, names);
-    } else {
-        sends(row, names);
+        return;
     }
+    if row.is(1, "mailbox") {
+        mailbox(row);
+        return;
+    }
+    if row.is(1, "attaches") {
+        attaches(row, names);
+        return;
+    }
+    sends(row, names);
 }

@@ -147,11 +147,15 @@ fn say_causes(row: &mut Row<'_>) {
 pub(crate) fn row(row: &mut Row<'_>, names: &Names) {
     if row.is(0, "stream") {
         stream(row, names);
-    } else if row.is(0, "frame") {
-        is_frame(row, names);
-    } else if row.is(0, "hello") {
-        is_hello(row, names);
-    } else {
-        say_causes(row);
+        return;
     }
+    if row.is(0, "frame") {
+        is_frame(row, names);
+        return;
+    }
+    if row.is(0, "hello") {
+        is_hello(row, names);
+        return;
+    }
+    say_causes(row);
 }

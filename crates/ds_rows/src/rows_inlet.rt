@@ -39,7 +39,7 @@ fn say_entries(row: &mut Row<'_>, entries: &[InletEntry]) {
             InletAct::Stale(number) => ("stale", number),
         };
         row.say(act);
-        row.say_number(number as u64);
+        row.say_small(number);
     }
     row.say("]");
 }
@@ -183,26 +183,38 @@ fn arrives(row: &mut Row<'_>, names: &Names, conn: &mut Conn, word: &[u8]) {
 fn operate_conn(row: &mut Row<'_>, names: &Names, conn: &mut Conn, place: usize) {
     if let Some(bytes) = row.word(place).strip_prefix(b"<") {
         arrives(row, names, conn, bytes);
-    } else if row.is(place, "read") {
+        return;
+    }
+    if row.is(place, "read") {
         let _ = read(row, conn);
-    } else if row.is(place, "fresh") || row.is(place, "stale") {
+        return;
+    }
+    if row.is(place, "fresh") || row.is(place, "stale") {
         let fresh = row.is(place, "fresh");
         settle(row, conn, fresh);
-    } else if row.is(place, "pass") {
+        return;
+    }
+    if row.is(place, "pass") {
         if pass(row.alloc, conn).is_err() {
             row.full();
         }
-    } else if row.is(place, "refuse") {
+        return;
+    }
+    if row.is(place, "refuse") {
         if refuse(conn).is_err() {
             row.full();
         }
-    } else if row.is(place, "hand") {
-        hand(row, conn);
-    } else if row.is(place, "entries") {
-        say_conn(row, conn.entries());
-    } else {
-        row.say_if(conn.failure().is_some());
+        return;
     }
+    if row.is(place, "hand") {
+        hand(row, conn);
+        return;
+    }
+    if row.is(place, "entries") {
+        say_conn(row, conn.entries());
+        return;
+    }
+    row.say_if(conn.failure().is_some());
 }
 
 /// Reads, takes and delivers what there is, at most three items.
@@ -296,15 +308,19 @@ pub(crate) fn row(row: &mut Row<'_>, names: &Names) {
         for place in 1..row.len() {
             operate(row, &mut inlet, place);
         }
-    } else if row.is(0, "connection") {
+        return;
+    }
+    if row.is(0, "connection") {
         connection(row, names);
-    } else if row.is(0, "copies") {
+        return;
+    }
+    if row.is(0, "copies") {
         let bytes = row.bytes(names, 2);
         let exporter = row.key(names, 4);
         let mut inlet = Inlet::new(row.alloc, exporter, 1);
         take(row, exporter, &bytes, &mut inlet);
         take(row, exporter, &bytes, &mut inlet);
-    } else {
-        cuts(row, names);
+        return;
     }
+    cuts(row, names);
 }

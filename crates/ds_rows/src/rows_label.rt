@@ -184,25 +184,41 @@ pub(crate) fn row(row: &mut Row<'_>, names: &Names) {
     if row.fits("label fills _ _") {
         let (count, member) = (row.small(2, 100), row.category(names, 3));
         fills(row, count, member);
-    } else if row.fits("label of _") || row.fits("label has _ _") {
+        return;
+    }
+    if row.fits("label of _") || row.fits("label has _ _") {
         named_one(row, names);
-    } else if row.fits("label _ _ _") {
+        return;
+    }
+    if row.fits("label _ _ _") {
         named_two(row, names);
-    } else if row.fits("label flows _ _ under _") {
+        return;
+    }
+    if row.fits("label flows _ _ under _") {
         named_under(row, names);
-    } else if row.fits("numbers fills _ _") {
+        return;
+    }
+    if row.fits("numbers fills _ _") {
         let (count, member) = (row.small(2, 100), row.number(3));
         number_fills(row, count, member);
-    } else if row.fits("numbers of _") || row.fits("numbers has _ _") {
+        return;
+    }
+    if row.fits("numbers of _") || row.fits("numbers has _ _") {
         numbered_one(row);
-    } else if row.fits("numbers _ _ _") {
+        return;
+    }
+    if row.fits("numbers _ _ _") {
         numbered_two(row);
-    } else if row.fits("numbers flows _ _ under _") {
+        return;
+    }
+    if row.fits("numbers flows _ _ under _") {
         numbered_under(row);
-    } else if row.fits("rules _") {
+        return;
+    }
+    if row.fits("rules _") {
         let named = row.category(names, 1);
         say_rules(row, named);
-    } else {
-        row.bad();
+        return;
     }
+    row.bad();
 }

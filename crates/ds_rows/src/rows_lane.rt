@@ -163,8 +163,8 @@ fn say_worker(row: &mut Row<'_>, end: &LaneEnd) {
             WorkerAct::Dropped { from, slot, .. } => ("dropped", from, slot),
         };
         row.say(act);
-        row.say_number(first as u64);
-        row.say_number(second as u64);
+        row.say_small(first);
+        row.say_small(second);
     }
     row.say("] stream");
     row.say_number(end.stream().len() as u64);
@@ -193,16 +193,20 @@ fn fills(row: &mut Row<'_>, lane: &mut LaneState, count: u8) {
 fn operate_lane(row: &mut Row<'_>, lane: &mut LaneState, place: usize) {
     if row.is(place, "lane") {
         say_entries(row, lane.history());
-    } else if row.is(place, "checkpoint") {
+        return;
+    }
+    if row.is(place, "checkpoint") {
         checkpoint(row, lane);
-    } else if row.is(place, "waiting") {
+        return;
+    }
+    if row.is(place, "waiting") {
         row.say_number(lane.waits() as u64);
         row.say_if(lane.is_full());
-    } else {
-        let says = row.byte(place);
-        if admit(lane, row.alloc, says).is_err() {
-            row.full();
-        }
+        return;
+    }
+    let says = row.byte(place);
+    if admit(lane, row.alloc, says).is_err() {
+        row.full();
     }
 }
 
@@ -216,17 +220,25 @@ fn operate(
 ) {
     if row.is(place, "lift") {
         lift(row, lane, end);
-    } else if row.is(place, "hand") {
-        say_hand(row, end);
-    } else if row.is(place, "frame") {
-        frame(row, end, keeper);
-    } else if row.is(place, "drop") {
-        drops(row, end);
-    } else if row.is(place, "worker") {
-        say_worker(row, end);
-    } else {
-        operate_lane(row, lane, place);
+        return;
     }
+    if row.is(place, "hand") {
+        say_hand(row, end);
+        return;
+    }
+    if row.is(place, "frame") {
+        frame(row, end, keeper);
+        return;
+    }
+    if row.is(place, "drop") {
+        drops(row, end);
+        return;
+    }
+    if row.is(place, "worker") {
+        say_worker(row, end);
+        return;
+    }
+    operate_lane(row, lane, place);
 }
 
 /// A signer of 32 leaves.

@@ -106,16 +106,22 @@ fn maker(row: &mut Row<'_>) {
 fn acts(row: &mut Row<'_>, process: &mut Proc) {
     if row.is(4, "sends") {
         sends(row, process);
-    } else if row.is(4, "takes") {
+        return;
+    }
+    if row.is(4, "takes") {
         let mailbox = row.local(5);
         say_rule(row, process.may_take(&mailbox));
-    } else if row.is(4, "acts") {
-        say_rule(row, process.may_publish());
-    } else if row.is(4, "changes") {
-        changes(row, process);
-    } else {
-        grants(row, process);
+        return;
     }
+    if row.is(4, "acts") {
+        say_rule(row, process.may_publish());
+        return;
+    }
+    if row.is(4, "changes") {
+        changes(row, process);
+        return;
+    }
+    grants(row, process);
 }
 
 /// `monitor LABEL OWN CLEAR sends LABEL OWN CLEAR`, `monitor LABEL OWN CLEAR takes LABEL`, `monitor LABEL OWN CLEAR acts`,

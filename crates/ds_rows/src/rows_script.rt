@@ -88,7 +88,8 @@ fn loads(row: &mut Row<'_>, process: &mut Proc, reg: u8, bytes: Bytes) {
     if process.reserve().is_err() {
         return row.full();
     }
-    if process.ended() || reg > 7 || bytes.len() > REGISTER_LIMIT {
+    let ended = process.place() as usize >= process.script().len();
+    if ended || reg > 7 || bytes.len() > REGISTER_LIMIT {
         return row.bad();
     }
     process.finish(None, Some((reg, bytes)));
@@ -145,14 +146,18 @@ pub(crate) fn row(row: &mut Row<'_>, names: &Names) {
         } else {
             script(row, names, &[1]);
         }
-    } else if row.is(0, "load") {
+        return;
+    }
+    if row.is(0, "load") {
         script(row, names, &[3]);
-    } else if row.is(0, "fits") {
+        return;
+    }
+    if row.is(0, "fits") {
         let op = op(row, names, 2);
         let size = row.small(1, 9) as usize;
         row.say_if(op.fits(size));
-    } else {
-        let (lower, higher) = (actor(row, 1), actor(row, 4));
-        row.say_if(lower < higher);
+        return;
     }
+    let (lower, higher) = (actor(row, 1), actor(row, 4));
+    row.say_if(lower < higher);
 }

@@ -105,9 +105,11 @@ pub(crate) fn row(row: &mut Row<'_>, names: &Names) {
     let signature = row.bytes(names, 3);
     if row.is(0, "verify") {
         row.say(verdict(&key, &message, &signature));
-    } else if row.is(0, "verify-each") {
-        each_byte(row, &key, &message, signature);
-    } else {
-        each_key_byte(row, key, &message, &signature);
+        return;
     }
+    if row.is(0, "verify-each") {
+        each_byte(row, &key, &message, signature);
+        return;
+    }
+    each_key_byte(row, key, &message, &signature);
 }

@@ -94,15 +94,21 @@ fn fills(row: &mut Row<'_>, names: &Names) {
 pub(crate) fn row(row: &mut Row<'_>, names: &Names) {
     if row.fits("wire puts ..") {
         puts(row);
-    } else if row.fits("wire gets _ ..") {
+        return;
+    }
+    if row.fits("wire gets _ ..") {
         gets(row, names);
-    } else if row.fits("wire fills _ _") {
+        return;
+    }
+    if row.fits("wire fills _ _") {
         fills(row, names);
-    } else if row.fits("wire same _ _") {
+        return;
+    }
+    if row.fits("wire same _ _") {
         let one = Bytes::from_vec(row.bytes(names, 2));
         let other = Bytes::from_vec(row.bytes(names, 3));
         row.say_if(one.same(&other));
-    } else {
-        row.bad();
+        return;
     }
+    row.bad();
 }
