@@ -5,7 +5,7 @@ ghost use Rattle.ds_frame.specs.Laws.{StartsWith};
 ghost use Rattle.ds_frame.specs.Reader.{Answered, fed, lane_after, new_reader};
 
 use crate::cause::Cause;
-use crate::item::{Failure, ReadFaultOrMemory, Item, ReadEnd};
+use crate::item::{Failure, Item, ReadEnd, ReadFaultOrMemory};
 use crate::reading::item_of;
 use ds_cert::LaneCert;
 use std::alloc::{AllocError, Global};

@@ -14,6 +14,3 @@ pub use note::{Note, NoteList};
 pub use op::{Op, OpList, REGISTER_LIMIT, SCRIPT_LIMIT};
 pub use process::Proc;
 pub use usable::{Usable, UsableList};
-
-#[cfg(test)]
-mod tests;
