@@ -1,0 +1,23 @@
+-- The public keys of a document's hosts.
+use Rattle.std.specs.Prelude.{List, map, Bool, bytes_eq}
+use Rattle.lms_sig.specs.declared.params.Params.{Params}
+use Rattle.lms_sig.specs.Keys.{derived_seed, derived_id}
+use Rattle.lms_sig.specs.Merkle.{public_key}
+use Rattle.ds_label.specs.declared.category.PubKey.{PubKey}
+use Rattle.ds_plan.specs.declared.host.HostSpec.{HostSpec}
+use Rattle.ds_plan.specs.declared.host.Secret.{Secret}
+use Rattle.ds_plan.specs.declared.host.Secret.TheVariants.{Seed, Key}
+
+-- a running host's identity key is made of its secret, with index 0; a silent host's key is given
+unfoldable pub key_of : Params → Secret → PubKey
+key_of identity (Seed secret) = record { 0 = public_key identity (derived_seed secret 0) (derived_id secret 0) }
+key_of identity (Key key) = key
+
+abbrev pub host_key : HostSpec → PubKey
+host_key h = key_of h.identity h.secret
+
+abbrev pub same_key : PubKey → PubKey → Bool
+same_key a b = bytes_eq a.0 b.0
+
+abbrev pub host_keys : List HostSpec → List PubKey
+host_keys hosts = map host_key hosts
