@@ -32,6 +32,12 @@ abbrev pub maker : Secret → List ℕ → Maker
 maker (Seed secret) made = Processes made
 maker (Key key) made = Anything
 
+-- whether the host runs
+abbrev pub runs : Option Maker → Bool
+runs None = false
+runs (Some Anything) = false
+runs (Some (Processes made)) = true
+
 abbrev pub host_maker : HostSpec → Maker
 host_maker h = maker h.secret (map (λ p. p.made) h.procs)
 

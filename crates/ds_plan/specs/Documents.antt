@@ -1,5 +1,5 @@
 -- What a document keeps that was read, as tests on its values. Hosts are named by their places.
-use Rattle.std.specs.Prelude.{◌≡◌, ℕ, suc, ◌+◌, ◌-◌, ◌^◌, ◌≤◌, List, [], ◌∷◌, ◌++◌, length, map, filter, flat_map, slice_get, All, Bool, true, false, ◌&&◌, ◌||◌, not, nat_le, nat_lt, nat_eq, bytes_eq, ◌==◌, if◌then◌else◌, Option, Some, None, is_some}
+use Rattle.std.specs.Prelude.{◌≡◌, ℕ, suc, ◌+◌, ◌-◌, ◌^◌, ◌≤◌, List, [], ◌∷◌, ◌++◌, length, map, filter, flat_map, slice_get, All, Bool, true, false, ◌&&◌, ◌||◌, not, nat_le, nat_lt, nat_eq, bytes_eq, ◌==◌, if◌then◌else◌, Option, Some, None, is_some, sum}
 use Rattle.std.specs.List.{list_all, list_any}
 use Rattle.lms_sig.specs.Parameters.{leaf_count}
 use Rattle.lms_sig.specs.declared.params.Params.{Params}
@@ -26,7 +26,7 @@ use Rattle.ds_plan.specs.declared.event.Event.{Event}
 use Rattle.ds_plan.specs.declared.event.Event.TheVariants.{Step, Frame, Arrive, Accept, Deliver, Tick, Inject, CopyBytes}
 use Rattle.ds_plan.specs.Keys.{host_key, host_keys, same_key}
 use Rattle.ds_plan.specs.Signed.{signed_address}
-use Rattle.ds_plan.specs.Categories.{Maker, origin, host_maker, is_place, is_known, is_made}
+use Rattle.ds_plan.specs.Categories.{Maker, Anything, Processes, runs, origin, host_maker, is_place, is_known, is_made}
 
 -- ---- limits
 
@@ -96,21 +96,25 @@ abbrev pub same_inlet : InletSpec → InletSpec → Bool
 same_inlet a b = (a.from == b.from) && (a.lane == b.lane)
 
 -- lanes of a host are numbered from 1
-abbrev pub leads_to : ℕ → Option LaneSpec → Bool
+abbrev pub leads_to : ℕ → Option ℕ → Bool
 leads_to here None = false
-leads_to here (Some lane) = lane.to == here
+leads_to here (Some to) = to == here
 
-abbrev pub lane_leads : ℕ → ℕ → Option HostSpec → Bool
+abbrev pub lane_leads : ℕ → ℕ → Option (List ℕ) → Bool
 lane_leads here number None = false
-lane_leads here number (Some from) = leads_to here (slice_get from.lanes (number - 1))
+lane_leads here number (Some receivers) = leads_to here (slice_get receivers (number - 1))
 
--- whether a lane of the document to this host makes the inlet
-abbrev pub comes_by_lane : List HostSpec → ℕ → InletSpec → Bool
-comes_by_lane hosts here inlet = lane_leads here inlet.lane (slice_get hosts inlet.from)
+-- the receivers of each host's lanes
+abbrev pub receivers : List HostSpec → List (List ℕ)
+receivers hosts = map (λ h. map (λ l. l.to) h.lanes) hosts
 
-abbrev pub are_inlets_new : List HostSpec → ℕ → HostSpec → Bool
-are_inlets_new hosts here h =
-    are_different same_inlet h.inlets && list_all (λ i. not (comes_by_lane hosts here i)) h.inlets
+-- whether the lane with that number from that host leads to this one
+abbrev pub comes_by_lane : List (List ℕ) → (here from number : ℕ) → Bool
+comes_by_lane receivers here from number = lane_leads here number (slice_get receivers from)
+
+abbrev pub are_inlets_new : List (List ℕ) → ℕ → HostSpec → Bool
+are_inlets_new receivers here h =
+    are_different same_inlet h.inlets && list_all (λ i. not (comes_by_lane receivers here i.from i.lane)) h.inlets
 
 -- a test of each item and its place, from a place on
 abbrev pub all_places : {A : Type 0} → (ℕ → A → Bool) → ℕ → List A → Bool
@@ -176,16 +180,24 @@ is_silent (Key key) = true
 abbrev pub count_of : Bool → ℕ
 count_of test = if test then 1 else 0
 
-abbrev pub is_by : ℕ → CertSpec → Bool
-is_by here (Made by category to from until at) = by == here
-is_by here (Given cert at) = false
+-- the hosts that sign the document's certificates, one each
+abbrev pub signer_of : CertSpec → List ℕ
+signer_of (Made by category to from until at) = by ∷ []
+signer_of (Given cert at) = []
 
--- the address, the lanes, and the document's certificates by this host
-abbrev pub signatures : List CertSpec → ℕ → HostSpec → ℕ
-signatures certs here h = count_of (is_some h.address) + length h.lanes + length (filter (is_by here) certs)
+abbrev pub signers_of : List CertSpec → List ℕ
+signers_of certs = flat_map signer_of certs
 
-abbrev pub has_leaves : List CertSpec → ℕ → HostSpec → Bool
-has_leaves certs here h = is_silent h.secret || nat_le (signatures certs here h) (leaf_count h.identity.lms)
+-- its address, its lanes, and the document's certificates by this host
+abbrev pub signatures : List ℕ → (here : ℕ) → (has_address : Bool) → (lanes : ℕ) → ℕ
+signatures signers here has_address lanes = count_of has_address + lanes + length (filter (λ n. n == here) signers)
+
+abbrev pub has_leaves : List ℕ → ℕ → Params → Secret → (has_address : Bool) → (lanes : ℕ) → Bool
+has_leaves signers here identity secret has_address lanes =
+    is_silent secret || nat_le (signatures signers here has_address lanes) (leaf_count identity.lms)
+
+abbrev pub host_has_leaves : List ℕ → ℕ → HostSpec → Bool
+host_has_leaves signers here h = has_leaves signers here h.identity h.secret (is_some h.address) (length h.lanes)
 
 abbrev pub is_bare : HostSpec → Bool
 is_bare h =
@@ -195,15 +207,6 @@ is_bare h =
 -- a silent host has nothing of a running one
 abbrev pub is_bare_if_silent : HostSpec → Bool
 is_bare_if_silent h = not (is_silent h.secret) || is_bare h
-
-abbrev pub runs : Option HostSpec → Bool
-runs None = false
-runs (Some h) = not (is_silent h.secret)
-
--- a certificate that setup makes is by a running host
-abbrev pub is_by_running : List HostSpec → CertSpec → Bool
-is_by_running hosts (Made by category to from until at) = runs (slice_get hosts by)
-is_by_running hosts (Given cert at) = true
 
 -- ---- address certificates
 
@@ -220,52 +223,62 @@ made_address identity _ _ = []
 abbrev pub made_addresses : List HostSpec → List (List ℕ)
 made_addresses hosts = flat_map (λ h. made_address h.identity h.secret h.address) hosts
 
-abbrev pub given_address : Cert → List (List ℕ)
-given_address (Delegation d) = []
-given_address (Address a) = spelling_of_address a ∷ []
+-- an address certificate of the document: its bytes, and the hosts to which it is given
+pub record GivenAddress : Type 0 where
+  pub bytes : List ℕ
+  pub at : List ℕ
 
--- the bytes of the address certificates that the document gives a host
-abbrev pub given_to : ℕ → CertSpec → List (List ℕ)
-given_to here (Made by category to from until at) = []
-given_to here (Given cert at) = if list_any (λ n. n == here) at then given_address cert else []
+abbrev pub address_given : Cert → List ℕ → List GivenAddress
+address_given (Delegation d) at = []
+address_given (Address a) at = record { bytes = spelling_of_address a; at = at } ∷ []
 
--- each running host is given those that setup makes, and those of the document, each once
-abbrev pub kept_addresses : List (List ℕ) → List CertSpec → ℕ → List (List ℕ)
-kept_addresses made certs here = each_once bytes_eq [] (made ++ flat_map (given_to here) certs)
+abbrev pub given_addresses : CertSpec → List GivenAddress
+given_addresses (Made by category to from until at) = []
+given_addresses (Given cert at) = address_given cert at
 
-abbrev pub has_address_room : List (List ℕ) → List CertSpec → ℕ → HostSpec → Bool
-has_address_room made certs here h = is_silent h.secret || has_at_most 64 (kept_addresses made certs here)
+abbrev pub is_among : ℕ → List ℕ → Bool
+is_among here places = list_any (λ n. n == here) places
+
+-- the address certificates that a host has, each once: those before, and those given to it
+abbrev pub kept_addresses : ℕ → List (List ℕ) → List GivenAddress → List (List ℕ)
+kept_addresses here before [] = before
+kept_addresses here before (g ∷ given) =
+    if is_among here g.at then kept_addresses here (each_once bytes_eq before (g.bytes ∷ [])) given else kept_addresses here before given
+
+-- a running host has room for those that setup makes and those of the document
+abbrev pub has_address_room : List (List ℕ) → List GivenAddress → ℕ → HostSpec → Bool
+has_address_room made given here h = is_silent h.secret || has_at_most 64 (kept_addresses here (each_once bytes_eq [] made) given)
 
 -- ---- events
 
-abbrev pub has_process : ℕ → Option HostSpec → Bool
+-- a running host has a process at that place
+abbrev pub has_process : ℕ → Option Maker → Bool
 has_process place None = false
-has_process place (Some h) = not (is_silent h.secret) && is_place place h.procs
+has_process place (Some Anything) = false
+has_process place (Some (Processes made)) = is_place place made
 
-abbrev pub has_lane : ℕ → Option HostSpec → Bool
+-- so many lanes
+abbrev pub has_lane : ℕ → Option ℕ → Bool
 has_lane number None = false
-has_lane number (Some h) = not (is_silent h.secret) && is_between 1 (length h.lanes) number
+has_lane number (Some lanes) = is_between 1 lanes number
 
-abbrev pub lane_count : List HostSpec → ℕ
-lane_count [] = 0
-lane_count (h ∷ hosts) = length h.lanes + lane_count hosts
+-- connections are numbered from 0: first the lanes of all hosts, each of which has so many, and then the links
+abbrev pub is_conn : List ℕ → (links : ℕ) → ℕ → Bool
+is_conn lanes links conn = nat_lt conn (sum lanes + links)
 
--- connections are numbered from 0: first the lanes of all hosts, then the links
-abbrev pub is_conn : List HostSpec → List ℕ → ℕ → Bool
-is_conn hosts links conn = nat_lt conn (lane_count hosts + length links)
+abbrev pub is_link : List ℕ → (links : ℕ) → ℕ → Bool
+is_link lanes links conn = nat_le (sum lanes) conn && is_conn lanes links conn
 
-abbrev pub is_link : List HostSpec → List ℕ → ℕ → Bool
-is_link hosts links conn = nat_le (lane_count hosts) conn && is_conn hosts links conn
-
-abbrev pub is_event : List HostSpec → List ℕ → Event → Bool
-is_event hosts links (Step host place) = has_process place (slice_get hosts host)
-is_event hosts links (Frame host lane) = has_lane lane (slice_get hosts host)
-is_event hosts links (Arrive conn count) = is_conn hosts links conn
-is_event hosts links (Accept conn) = is_conn hosts links conn
-is_event hosts links (Deliver conn) = is_conn hosts links conn
-is_event hosts links (Tick host to) = is_place host hosts
-is_event hosts links (Inject conn bytes) = is_link hosts links conn
-is_event hosts links (CopyBytes conn source from until) = is_link hosts links conn && is_link hosts links source
+-- what an event names is there: a running host's process or lane, a host, a connection, a link
+abbrev pub is_event : List Maker → List ℕ → (links : ℕ) → Event → Bool
+is_event makers lanes links (Step host place) = has_process place (slice_get makers host)
+is_event makers lanes links (Frame host lane) = runs (slice_get makers host) && has_lane lane (slice_get lanes host)
+is_event makers lanes links (Arrive conn count) = is_conn lanes links conn
+is_event makers lanes links (Accept conn) = is_conn lanes links conn
+is_event makers lanes links (Deliver conn) = is_conn lanes links conn
+is_event makers lanes links (Tick host to) = is_place host makers
+is_event makers lanes links (Inject conn bytes) = is_link lanes links conn
+is_event makers lanes links (CopyBytes conn source from until) = is_link lanes links conn && is_link lanes links source
 
 abbrev pub events_of : Option (List Event) → List Event
 events_of None = []
@@ -285,6 +298,9 @@ has_host_sizes h =
     && list_all (λ p. nat_le p.made 2147483647) h.procs
     && list_all (λ b. is_between 1 256 b.room) h.boxes && list_all (λ l. is_between 1 256 l.room && nat_lt l.until (2 ^ 64)) h.lanes
     && list_all (λ i. is_between 1 32 i.lane) h.inlets
+
+abbrev pub lane_counts : Doc → List ℕ
+lane_counts d = map (λ h. length h.lanes) d.hosts
 
 abbrev pub makers : Doc → List Maker
 makers d = map host_maker d.hosts
@@ -306,13 +322,13 @@ pub record IsDocument (d : Doc) : Type 0 where
   pub keys : are_different same_key (host_keys d.hosts) ≡ true
   pub slots : list_all (λ h. are_different nat_eq (map (λ b. b.slot) h.boxes)) d.hosts ≡ true
   pub lanes : list_all (λ h. are_different same_lane h.lanes) d.hosts ≡ true
-  pub inlets : all_places (are_inlets_new d.hosts) 0 d.hosts ≡ true
+  pub inlets : all_places (are_inlets_new (receivers d.hosts)) 0 d.hosts ≡ true
   -- what is named is there
   pub hosts : list_all (λ h. list_all (λ n. is_place n d.hosts) (named_hosts h)) d.hosts ≡ true
   pub cert_hosts : list_all (λ c. list_all (λ n. is_place n d.hosts) (cert_hosts c)) d.certs ≡ true
   pub links : list_all (λ n. is_place n d.hosts) d.links ≡ true
   pub owners : list_all (λ h. list_all (λ b. is_place b.owner h.procs) h.boxes) d.hosts ≡ true
-  pub events : list_all (is_event d.hosts d.links) (events_of d.events) ≡ true
+  pub events : list_all (is_event (makers d) (lane_counts d) (length d.links)) (events_of d.events) ≡ true
   -- categories are of hosts and processes of the document; those of labels are made, and those that a state has are mapped
   pub known : list_all (λ h. list_all (is_known_in d) (h.map ++ state_categories h ++ lane_categories h ++ script_categories h)) d.hosts ≡ true
   pub cert_known : list_all (λ c. list_all (is_known_in d) (cert_categories c)) d.certs ≡ true
@@ -320,7 +336,7 @@ pub record IsDocument (d : Doc) : Type 0 where
   pub mapped : list_all (λ h. list_all (is_mapped (host_key h) h.map) (state_categories h)) d.hosts ≡ true
   pub rows : list_all (λ h. are_rows (host_key h) h.map) d.hosts ≡ true
   -- what setup needs
-  pub leaves : all_places (has_leaves d.certs) 0 d.hosts ≡ true
-  pub addresses : all_places (has_address_room (made_addresses d.hosts) d.certs) 0 d.hosts ≡ true
+  pub leaves : all_places (host_has_leaves (signers_of d.certs)) 0 d.hosts ≡ true
+  pub addresses : all_places (has_address_room (made_addresses d.hosts) (flat_map given_addresses d.certs)) 0 d.hosts ≡ true
   pub silent : list_all is_bare_if_silent d.hosts ≡ true
-  pub signers : list_all (is_by_running d.hosts) d.certs ≡ true
+  pub signers : list_all (λ n. runs (slice_get (makers d) n)) (signers_of d.certs) ≡ true
