@@ -1,0 +1,14 @@
+//! Documents: what a JSON text says of hosts, their processes, mailboxes and lanes, certificates, links and events.
+//!
+//! [`read`] gives the document, or the least code of a rule that it breaks and the least place where it does.
+#![tactic(auto)]
+
+mod draft;
+mod fault;
+mod form;
+mod judge;
+mod size;
+mod spot;
+mod text;
+
+pub use fault::DocFault;
