@@ -4,3 +4,6 @@ pub mod Texts
 pub mod Forms
 pub mod Shapes
 pub mod Names
+pub mod Draft
+pub mod Rules
+pub mod Values

@@ -18,7 +18,8 @@ use Rattle.ds_doc.specs.declared.form.Object.TheVariants as objects
 use Rattle.ds_doc.specs.declared.form.Most.{Most}
 use Rattle.ds_doc.specs.declared.form.Most.TheVariants as mosts
 use Rattle.ds_doc.specs.Places.{◌⊕◌, size, same_text, or_default}
-use Rattle.ds_doc.specs.Texts.{is_name, is_address, register_of, kind_of, category_of}
+use Rattle.ds_plan.specs.Documents.{is_name, is_address}
+use Rattle.ds_doc.specs.Texts.{register_of, kind_of, category_of}
 use Rattle.ds_doc.specs.Forms.{member_form, needed, item_form, most, arguments}
 
 -- the first comes before the second, by code and then by place

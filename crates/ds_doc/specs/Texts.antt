@@ -1,6 +1,7 @@
 -- Forms of texts.
 use Rattle.std.specs.Prelude.{ℕ, ◌+◌, ◌-◌, ◌*◌, ◌^◌, List, [], ◌∷◌, length, take, drop, codes, Bool, true, ◌&&◌, ◌||◌, not, nat_le, nat_lt, ◌==◌, if◌then◌else◌, Option, Some, None}
 use Rattle.std.specs.List.{list_all, position}
+use Rattle.ds_plan.specs.Documents.{is_name}
 use Rattle.ds_label.specs.declared.category.Kind.{Kind}
 use Rattle.ds_label.specs.declared.category.Kind.TheVariants.{Secrecy, Integrity}
 
@@ -12,21 +13,6 @@ None >>= f = None
 -- x, where the test holds
 abbrev pub only_if : {A : Type 0} → Bool → A → Option A
 only_if test x = if test then Some x else None
-
--- a to z, 0 to 9, `_`, `-`
-abbrev pub is_name_byte : ℕ → Bool
-is_name_byte b = (nat_le 97 b && nat_le b 122) || (nat_le 48 b && nat_le b 57) || (b == 95) || (b == 45)
-
--- a host's name has 1 to 32 of these
-abbrev pub is_name : List ℕ → Bool
-is_name s = nat_le 1 (length s) && nat_le (length s) 32 && list_all is_name_byte s
-
-abbrev pub is_address_byte : ℕ → Bool
-is_address_byte b = nat_le 33 b && nat_le b 126
-
--- an address has 1 to 64 visible bytes of ASCII
-abbrev pub is_address : List ℕ → Bool
-is_address s = nat_le 1 (length s) && nat_le (length s) 64 && list_all is_address_byte s
 
 -- `r0` to `r7`
 abbrev pub register_of : List ℕ → Option ℕ

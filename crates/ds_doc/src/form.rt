@@ -6,7 +6,7 @@ ghost use Rattle.ds_doc.specs.declared.form.Object.TheVariants as objects;
 ghost use Rattle.ds_doc.specs.declared.form.Worded.TheVariants as words;
 
 /// A form.
-#[derive(Clone, Copy, Debug, PartialEq, Eq)]
+#[derive(Clone, Copy)]
 pub(crate) enum Form {
     /// A number or a text.
     Single(Single),
@@ -19,7 +19,7 @@ pub(crate) enum Form {
 }
 
 /// A form of numbers or texts.
-#[derive(Clone, Copy, Debug, PartialEq, Eq)]
+#[derive(Clone, Copy)]
 pub(crate) enum Single {
     /// Any number.
     Number,
@@ -50,7 +50,7 @@ pub(crate) enum Single {
 }
 
 /// A form of lists.
-#[derive(Clone, Copy, Debug, PartialEq, Eq)]
+#[derive(Clone, Copy)]
 pub(crate) enum Listed {
     Hosts,
     Procs,
@@ -70,7 +70,7 @@ pub(crate) enum Listed {
 }
 
 /// A form of objects.
-#[derive(Clone, Copy, Debug, PartialEq, Eq)]
+#[derive(Clone, Copy)]
 pub(crate) enum Object {
     Document,
     Host,
@@ -82,14 +82,14 @@ pub(crate) enum Object {
 }
 
 /// A form of lists that begin with a word.
-#[derive(Clone, Copy, Debug, PartialEq, Eq)]
+#[derive(Clone, Copy)]
 pub(crate) enum Worded {
     Operation,
     Event,
 }
 
 /// How long a list may be.
-#[derive(Clone, Copy, Debug, PartialEq, Eq)]
+#[derive(Clone, Copy)]
 pub(crate) enum Most {
     /// As long as it likes.
     Any,

@@ -7,8 +7,11 @@ mod draft;
 mod fault;
 mod form;
 mod judge;
+mod reading;
+mod rules;
 mod size;
 mod spot;
 mod text;
+mod values;
 
 pub use fault::DocFault;

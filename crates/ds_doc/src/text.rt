@@ -3,6 +3,8 @@
 ghost use Rattle.std.specs.Prelude.{◌≡◌, ◌+◌, drop, ◌≤◌, ◌<◌, ◌^◌, true, nat_le, IfSome, length, option_map};
 ghost use Rattle.std.specs.List.{list_all};
 ghost use Rattle.ds_doc.specs.Places.{same_text};
+ghost use Rattle.ds_cert.specs.Ranges.{is_letter};
+ghost use Rattle.ds_plan.specs.Documents as documents;
 ghost use Rattle.ds_doc.specs.Texts as texts;
 ghost use Rattle.ds_doc.specs.Seen.{named_seen};
 
@@ -42,39 +44,39 @@ pub(crate) fn is_word(text: &[u8], word: &str) -> bool
 
 /// a to z, 0 to 9, `_`, `-`.
 fn is_name_byte(byte: u8) -> bool
-    ensures { result ≡ texts.is_name_byte byte }
+    ensures { result ≡ documents.is_name_byte byte }
 {
     byte.is_ascii_lowercase() || byte.is_ascii_digit() || byte == b'_' || byte == b'-'
 }
 
 fn are_name_bytes(bytes: &[u8]) -> bool
-    ensures { result ≡ list_all texts.is_name_byte bytes.now }
+    ensures { result ≡ list_all documents.is_name_byte bytes.now }
 {
     bytes.iter().all(|b| is_name_byte(*b))
 }
 
 /// Whether it is the name of a host: 1 to 32 of a to z, 0 to 9, `_`, `-`.
 pub(crate) fn is_name(bytes: &[u8]) -> bool
-    ensures { result ≡ texts.is_name bytes.now }
+    ensures { result ≡ documents.is_name bytes.now }
 {
     1 <= bytes.len() && bytes.len() <= NAME_MOST && are_name_bytes(bytes)
 }
 
 fn is_address_byte(byte: u8) -> bool
-    ensures { result ≡ texts.is_address_byte byte }
+    ensures { result ≡ is_letter byte }
 {
-    0x21 <= byte && byte <= 0x7e
+    !(byte < 0x21) && !(0x7e < byte)
 }
 
 fn are_address_bytes(bytes: &[u8]) -> bool
-    ensures { result ≡ list_all texts.is_address_byte bytes.now }
+    ensures { result ≡ list_all is_letter bytes.now }
 {
     bytes.iter().all(|b| is_address_byte(*b))
 }
 
 /// Whether it is an address: 1 to 64 bytes from 0x21 to 0x7e.
 pub(crate) fn is_address(bytes: &[u8]) -> bool
-    ensures { result ≡ texts.is_address bytes.now }
+    ensures { result ≡ documents.is_address bytes.now }
 {
     1 <= bytes.len() && bytes.len() <= ADDRESS_MOST && are_address_bytes(bytes)
 }

@@ -5,6 +5,8 @@ use Rattle.ds_label.specs.declared.category.Category.{Category}
 use Rattle.ds_plan.specs.declared.host.HostSpec.{HostSpec}
 use Rattle.ds_plan.specs.declared.host.Secret.{Secret}
 use Rattle.ds_plan.specs.declared.host.Secret.TheVariants.{Seed, Key}
+use Rattle.ds_plan.specs.declared.maker.Maker.{Maker}
+use Rattle.ds_plan.specs.declared.maker.Maker.TheVariants.{Anything, Processes}
 use Rattle.ds_plan.specs.Keys.{same_key}
 
 -- where a category comes from: its creator's place among the hosts, which of the creator's processes made it, and as which of
@@ -23,11 +25,7 @@ place_of_key (k ∷ keys) key = if same_key k key then 0 else suc (place_of_key 
 abbrev pub origin : List PubKey → Category → Origin
 origin keys c = record { host = place_of_key keys c.creator; process = c.number / 2 ^ 32; number = c.number % 2 ^ 32 }
 
--- what a host may have made: a silent host any category, a running one so many with each of its processes
-pub data Maker : Type 0 where
-  Anything : Maker
-  Processes : List ℕ → Maker
-
+-- a silent host may have made any category, a running one so many with each of its processes
 abbrev pub maker : Secret → List ℕ → Maker
 maker (Seed secret) made = Processes made
 maker (Key key) made = Anything

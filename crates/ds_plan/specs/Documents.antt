@@ -11,7 +11,9 @@ use Rattle.ds_script.specs.declared.op.Op.{Op}
 use Rattle.ds_script.specs.declared.op.Op.TheVariants.{Send, Delegate, SetLabel, Map}
 use Rattle.ds_script.specs.Fits.{IsScript}
 use Rattle.ds_cert.specs.declared.cert.Cert.{Cert}
-use Rattle.ds_cert.specs.declared.cert.Cert.TheVariants.{Delegation, Address}
+use Rattle.ds_cert.specs.declared.cert.Cert.TheVariants as certs
+use Rattle.ds_cert.specs.declared.address.Address.{Address}
+use Rattle.ds_cert.specs.Ranges.{is_letter}
 use Rattle.ds_cert.specs.Spelling.{spelling_of_address}
 use Rattle.ds_plan.specs.declared.doc.Doc.{Doc}
 use Rattle.ds_plan.specs.declared.host.HostSpec.{HostSpec}
@@ -22,11 +24,13 @@ use Rattle.ds_plan.specs.declared.host.Secret.TheVariants.{Seed, Key}
 use Rattle.ds_plan.specs.declared.process.ProcSpec.{ProcSpec}
 use Rattle.ds_plan.specs.declared.cert.CertSpec.{CertSpec}
 use Rattle.ds_plan.specs.declared.cert.CertSpec.TheVariants.{Made, Given}
+use Rattle.ds_plan.specs.declared.maker.Maker.{Maker}
+use Rattle.ds_plan.specs.declared.maker.Maker.TheVariants.{Anything, Processes}
 use Rattle.ds_plan.specs.declared.event.Event.{Event}
 use Rattle.ds_plan.specs.declared.event.Event.TheVariants.{Step, Frame, Arrive, Accept, Deliver, Tick, Inject, CopyBytes}
 use Rattle.ds_plan.specs.Keys.{host_key, host_keys, same_key}
 use Rattle.ds_plan.specs.Signed.{signed_address}
-use Rattle.ds_plan.specs.Categories.{Maker, Anything, Processes, runs, origin, host_maker, is_place, is_known, is_made}
+use Rattle.ds_plan.specs.Categories.{runs, origin, host_maker, is_place, is_known, is_made}
 
 -- ---- limits
 
@@ -45,12 +49,15 @@ is_name s = is_between 1 32 (length s) && list_all is_name_byte s
 
 -- an address: 1 to 64 visible characters of ASCII
 abbrev pub is_address : List ℕ → Bool
-is_address s = is_between 1 64 (length s) && list_all (is_between 33 126) s
+is_address s = is_between 1 64 (length s) && list_all is_letter s
 
 -- what a certificate keeps that was read
+abbrev pub is_address_in_range : Address → Bool
+is_address_in_range a = is_address a.address && nat_le (length a.signature) 2508
+
 abbrev pub is_cert_in_range : Cert → Bool
-is_cert_in_range (Delegation d) = nat_le (length d.signature) 2508
-is_cert_in_range (Address a) = nat_le (length a.signature) 2508 && is_address a.address
+is_cert_in_range (certs.Delegation d) = nat_le (length d.signature) 2508
+is_cert_in_range (certs.Address a) = is_address_in_range a
 
 abbrev pub is_spec_in_range : CertSpec → Bool
 is_spec_in_range (Made by category to from until at) = true
@@ -217,8 +224,10 @@ each_once same before (x ∷ xs) = if stood same before x then each_once same be
 
 -- the bytes of the own address certificate, where a running host has one
 abbrev pub made_address : Params → Secret → Option (List ℕ) → List (List ℕ)
-made_address identity (Seed secret) (Some address) = spelling_of_address (signed_address identity (Seed secret) address) ∷ []
-made_address identity _ _ = []
+made_address identity (Seed secret) (Some address) =
+    if is_address address then spelling_of_address (signed_address identity (Seed secret) address) ∷ [] else []
+made_address identity (Seed secret) None = []
+made_address identity (Key key) address = []
 
 abbrev pub made_addresses : List HostSpec → List (List ℕ)
 made_addresses hosts = flat_map (λ h. made_address h.identity h.secret h.address) hosts
@@ -229,8 +238,8 @@ pub record GivenAddress : Type 0 where
   pub at : List ℕ
 
 abbrev pub address_given : Cert → List ℕ → List GivenAddress
-address_given (Delegation d) at = []
-address_given (Address a) at = record { bytes = spelling_of_address a; at = at } ∷ []
+address_given (certs.Delegation d) at = []
+address_given (certs.Address a) at = if is_address_in_range a then record { bytes = spelling_of_address a; at = at } ∷ [] else []
 
 abbrev pub given_addresses : CertSpec → List GivenAddress
 given_addresses (Made by category to from until at) = []

@@ -7,6 +7,7 @@ mod doc;
 mod event;
 mod host;
 mod list;
+mod maker;
 mod process;
 
 pub use cert::{CertSpec, CertSpecList};
@@ -14,4 +15,5 @@ pub use doc::Doc;
 pub use event::{Event, EventList};
 pub use host::{HostSpec, HostSpecList, InletSpec, InletSpecList, LaneSpec, LaneSpecList, Secret};
 pub use list::{CategoryList, HostSet, PartList, PlaceList};
+pub use maker::Maker;
 pub use process::{BoxSpec, BoxSpecList, ProcSpec, ProcSpecList};
