@@ -1,5 +1,5 @@
 -- What reading answers is a document.
-use Rattle.std.proofs.Common.{◌≡◌, ℕ, List, [], map, Bool, true, false, Option, Some, None, Result, Ok, Err, refl, sym, ap, ◌∙◌, subst}
+use Rattle.std.proofs.Common.{◌≡◌, ℕ, List, [], ◌∷◌, map, Bool, true, false, Option, Some, None, Result, Ok, Err, refl, sym, ap, ◌∙◌, subst, IfOk, if◌then◌else◌}
 use Rattle.serde_json.specs.Data.{Data}
 use Rattle.ds_label.specs.declared.category.PubKey.{PubKey}
 use Rattle.ds_plan.specs.declared.doc.Doc.{Doc}
@@ -14,7 +14,9 @@ use Rattle.ds_doc.specs.Shapes.{judged, least, lesser, is_before}
 use Rattle.ds_doc.specs.Draft.{draft_of}
 use Rattle.ds_doc.specs.Rules.{rules, over_full}
 use Rattle.ds_doc.specs.Values.{doc_of, doc_by, host, host_keys}
-use Rattle.ds_doc.specs.Reading.{root_of, is_misshapen, or_by_rules, fault_by, fault_of, answer_by, answer_of, identity}
+use Rattle.ds_doc.specs.declared.fault.DocFault.{DocFault}
+use Rattle.lms_sig.specs.Keys.{Key}
+use Rattle.ds_doc.specs.Reading.{AnswersBy, first_of, root_of, is_misshapen, or_by_rules, fault_by, fault_of, answer_by, answer_of, identity}
 use Rattle.ds_doc.proofs.Faults.{none_broken}
 use Rattle.ds_doc.proofs.Whole.{document_of}
 use Rattle.ds_doc.proofs.Drafts.{limits_of}
@@ -58,10 +60,14 @@ no_fault root form e =
     (none_broken (rules draft) (or_rules (lesser form (least (over_full draft))) draft kept))
 
 answered : (fault : Option Fault) (draft : Draft) (doc : Doc) → answer_by fault draft ≡ Ok doc → (fault ≡ None) × (doc_of draft ≡ doc)
-answered None draft doc e = (refl, same (doc_of draft) doc e)
+answered None draft doc e = (refl, same (doc_of draft) doc e refl)
   where
-    same : (a b : Doc) → Ok {E = ℕ × ℕ} a ≡ Ok b → a ≡ b
-    same a b g = cc
+    by_ok : Result Doc (ℕ × ℕ) → Doc
+    by_ok (Ok x) = x
+    by_ok (Err f) = doc_of draft
+
+    same : (a b : Doc) → answer_by None draft ≡ Ok b → a ≡ doc_of draft → a ≡ b
+    same a b g h = h ∙ ap by_ok g
 answered (Some f) draft doc e = absurd cc
 
 pub is_document : (d : Data) (doc : Doc) → answer_of d ≡ Ok doc → IsDocument doc
@@ -87,3 +93,12 @@ unfolding answer_of
 its_identities d doc e =
     let found = answered (fault_of d) (draft_of (root_of d)) doc e in
     doc_identities (draft_of (root_of d)) ∙ ap (λ x. map identity_key x.hosts) found.1
+
+pub documented : {B : Type 0} (d : Data) (r : Result (Doc × B) DocFault) → AnswersBy (answer_of d) (first_of r) → IfOk r (λ x. IsDocument x.0)
+documented d (Ok x) h = is_document d x.0 h
+documented d (Err e) h = tt
+
+pub keys_answered : {B : Type 0} (d : Data) (items : B → List (Option Key)) (r : Result (Doc × B) DocFault) → AnswersBy (answer_of d) (first_of r)
+    → IfOk r (λ x. items x.1 ≡ map identity (draft_of (root_of d)).hosts) → IfOk r (λ x. items x.1 ≡ map identity_key x.0.hosts)
+keys_answered d items (Ok x) h g = g ∙ its_identities d x.0 h
+keys_answered d items (Err e) h g = tt

@@ -8,6 +8,7 @@ use Rattle.hex.specs.Hex as hex
 use Rattle.ds_cert.specs.declared.cert.Cert.{Cert}
 use Rattle.ds_cert.specs.Reading.{read_cert}
 use Rattle.ds_plan.specs.Documents.{stood, are_new, are_different, is_between, has_at_most, is_name, is_address, has_secret_length, is_address_if_some, is_cert_in_range}
+use Rattle.ds_plan.specs.declared.host.Secret.{Secret}
 use Rattle.ds_doc.specs.declared.draft.Placed.{Placed}
 use Rattle.ds_doc.specs.declared.draft.CategoryName.{CategoryName}
 use Rattle.ds_doc.specs.declared.draft.DraftOp.{DraftOp}
@@ -63,7 +64,7 @@ new_push same before [] c e h = and_from (not (stood same before c)) true (not_f
 new_push same before (x ∷ xs) c e h =
     and_from (not (stood same before x)) _ (and_first (not (stood same before x)) (are_new same (before ++ x ∷ []) xs) e)
     (new_push same (before ++ x ∷ []) xs c (and_second (not (stood same before x)) (are_new same (before ++ x ∷ []) xs) e)
-        (subst (λ ys. stood same ys c ≡ false) (sym (Rattle.std.proofs.lemmas.List.append_assoc before (x ∷ []) xs)) h))
+    (subst (λ ys. stood same ys c ≡ false) (sym (Rattle.std.proofs.lemmas.List.append_assoc before (x ∷ []) xs)) h))
 
 record IsSet (most : ℕ) (set : List (Placed CategoryName)) : Type 0 where
   few : length set ≤ most
@@ -91,6 +92,9 @@ set_is most names spots = each_is most [] (map (drafts.placed_category names) sp
 reg_is : (n : ℕ) → reg_fits (min n 7) ≡ true
 reg_is n = lt-ltb (min n 7) 8 (omega arith)
 
+reg_at : (s : Spot) → reg_fits (drafts.register s) ≡ true
+reg_at s = reg_is (Rattle.std.specs.Option.unwrap_or (Rattle.ds_doc.specs.Texts.register_of (text s)) 0)
+
 either : (b : Bool) (x y : DraftOp) → op_limits x ≡ true → op_limits y ≡ true → op_limits (if b then x else y) ≡ true
 either true x y e g = e
 either false x y e g = g
@@ -98,16 +102,16 @@ either false x y e g = g
 one_fits : (names : List (List ℕ)) (w : List ℕ) (a : Spot) → op_limits (drafts.of_one names w a) ≡ true
 one_fits names w a =
     either (same_text w (codes "jump")) _ _ refl
-    (either (same_text w (codes "print")) _ _ (reg_is _)
+    (either (same_text w (codes "print")) _ _ (reg_at a)
     (either (same_text w (codes "label")) _ _ refl
     (either (same_text w (codes "newcat")) _ _ refl
-    (either (same_text w (codes "map")) _ _ refl (reg_is _)))))
+    (either (same_text w (codes "map")) _ _ refl (reg_at a)))))
 
 two_fits : (w : List ℕ) (a b : Spot) → op_limits (drafts.of_two w a b) ≡ true
-two_fits w a b = either (same_text w (codes "set")) _ _ (and_from _ _ (reg_is _) (le-leb _ _ (first_few 16384 (text b)))) (reg_is _)
+two_fits w a b = either (same_text w (codes "set")) _ _ (and_from _ _ (reg_at a) (le-leb _ _ (first_few 16384 (text b)))) (reg_at a)
 
 three_fits : (w : List ℕ) (a b c : Spot) → op_limits (drafts.of_three w a b c) ≡ true
-three_fits w a b c = either (same_text w (codes "join")) _ _ (and_from _ _ (reg_is _) (and_from _ _ (reg_is _) (reg_is _))) (and_from _ _ (reg_is _) (reg_is _))
+three_fits w a b c = either (same_text w (codes "join")) _ _ (and_from _ _ (reg_at a) (and_from _ _ (reg_at b) (reg_at c))) (and_from _ _ (reg_at a) (reg_at b))
 
 op_fits : (names : List (List ℕ)) (w : List ℕ) (xs : List Spot) → op_limits (drafts.op_of names w xs) ≡ true
 op_fits names w [] = refl
@@ -115,8 +119,8 @@ op_fits names w (a ∷ []) = one_fits names w a
 op_fits names w (a ∷ b ∷ []) = two_fits w a b
 op_fits names w (a ∷ b ∷ c ∷ []) = three_fits w a b c
 op_fits names w (a ∷ b ∷ c ∷ d ∷ []) = refl
-op_fits names w (a ∷ b ∷ c ∷ d ∷ e ∷ []) = reg_is _
-op_fits names w (a ∷ b ∷ c ∷ d ∷ e ∷ f ∷ []) = reg_is _
+op_fits names w (a ∷ b ∷ c ∷ d ∷ e ∷ []) = reg_at a
+op_fits names w (a ∷ b ∷ c ∷ d ∷ e ∷ f ∷ []) = reg_at c
 op_fits names w (a ∷ b ∷ c ∷ d ∷ e ∷ f ∷ g ∷ xs) = refl
 
 word_fits : (names : List (List ℕ)) (xs : List Spot) → op_limits (drafts.by_word names xs) ≡ true
@@ -132,17 +136,17 @@ operation_fits names s = word_fits names (items s)
 proc_fits : (names : List (List ℕ)) (p : Spot) → proc_limits (drafts.proc_of names p) ≡ true
 unfolding drafts.proc_of
 proc_fits names p =
-    and_from _ _ (and_second _ _ (between 0 2147483647 _ (omega arith)))
+    and_from _ _ (and_second _ _ (between 0 2147483647 (member_number (codes "made") 0 p) (omega arith)))
     (and_from _ _ (take_few 4096 (drafts.operation names) (member_items (codes "script") p)) (each_all op_limits (drafts.operation names) (take 4096 (member_items (codes "script") p)) (operation_fits names)))
 
 box_fits : (names : List (List ℕ)) (b : Spot) → box_limits (drafts.box_of names b) ≡ true
 unfolding drafts.box_of
-box_fits names b = between 1 256 _ (omega arith)
+box_fits names b = between 1 256 (member_number (codes "room") 1 b) (omega arith)
 
 lane_fits : (names : List (List ℕ)) (l : Spot) → lane_limits (drafts.lane_of names l) ≡ true
 unfolding drafts.lane_of
 lane_fits names l =
-    and_from _ _ (and_from _ _ (between 1 256 _ (omega arith)) (below (member_number (codes "until") (2 ^ 64 - 1) l)))
+    and_from _ _ (and_from _ _ (between 1 256 (member_number (codes "room") 1 l) (omega arith)) (below (member_number (codes "until") (2 ^ 64 - 1) l)))
     (le-leb _ _ (few_of (set_is 64 names (member_items (codes "label") l))))
   where
     below : (n : ℕ) → nat_lt (min n (2 ^ 64 - 1)) (2 ^ 64) ≡ true
@@ -153,7 +157,7 @@ lane_fits names l =
 
 inlet_fits : (names : List (List ℕ)) (i : Spot) → inlet_limits (drafts.inlet_of names i) ≡ true
 unfolding drafts.inlet_of
-inlet_fits names i = between 1 32 _ (omega arith)
+inlet_fits names i = between 1 32 (member_number (codes "lane") 1 i) (omega arith)
 
 written_few : {B : Type 0} (most : ℕ) (f : Spot → B) (o : Option Spot) → has_at_most most (or_empty (option_map (λ t. record { at = t.at; value = map f (take most (items t)) }) o)) ≡ true
 written_few most f None = le-leb 0 most (omega arith)
@@ -182,7 +186,7 @@ if_name : (b : Bool) (s : List ℕ) → is_name s ≡ b → is_name (if b then s
 if_name true s e = e
 if_name false s e = refl
 
-name_is : (o : Option Spot) (at : ℕ) → is_name (or_default (record { at = at; value = codes "-" }) (λ t. record { at = t.at; value = drafts.name_or (text t) }) o).value ≡ true
+name_is : (o : Option Spot) (at : ℕ) → is_name (or_default {B = Placed (List ℕ)} (record { at = at; value = codes "-" }) (λ t. record { at = t.at; value = drafts.name_or (text t) }) o).value ≡ true
 name_is None at = refl
 name_is (Some t) at = if_name (is_name (text t)) (text t) refl
 
@@ -198,7 +202,7 @@ sized : (b : Bool) (size : ℕ) (bytes other : List ℕ) → nat_eq (length byte
 sized true size bytes other e g = e
 sized false size bytes other e g = g
 
-bytes_are : {E : Type 0} (size : ℕ) (r : Result (List ℕ) E) → nat_eq (length (replicate size 0)) size ≡ true → nat_eq (length (drafts.bytes_or size r)) size ≡ true
+bytes_are : {E : Type 0} (size : ℕ) (r : Result (List ℕ) E) → nat_eq (length {A = ℕ} (replicate size 0)) size ≡ true → nat_eq (length (drafts.bytes_or size r)) size ≡ true
 bytes_are size (Ok bytes) g = sized (nat_eq (length bytes) size) size bytes (replicate size 0) refl g
 bytes_are size (Err e) g = g
 
@@ -211,12 +215,12 @@ unfolding drafts.key_bytes
 key_is s = bytes_are 56 (hex.decode_sized s 56) refl
 
 placed_key_is : (o : Option Spot) (at : ℕ)
-    → has_secret_length (or_default (record { at = at; value = Rattle.ds_plan.specs.declared.host.Secret.TheVariants.Key (record { 0 = drafts.key_bytes [] }) }) (λ t. record { at = t.at; value = Rattle.ds_plan.specs.declared.host.Secret.TheVariants.Key (record { 0 = drafts.key_bytes (text t) }) }) o).value ≡ true
+    → has_secret_length (or_default {B = Placed Secret} (record { at = at; value = Rattle.ds_plan.specs.declared.host.Secret.TheVariants.Key (record { 0 = drafts.key_bytes [] }) }) (λ t. record { at = t.at; value = Rattle.ds_plan.specs.declared.host.Secret.TheVariants.Key (record { 0 = drafts.key_bytes (text t) }) }) o).value ≡ true
 placed_key_is None at = key_is []
 placed_key_is (Some t) at = key_is (text t)
 
 secret_by : (h : Spot) (o : Option Spot)
-    → has_secret_length (or_default (drafts.placed_key h) (λ t. record { at = t.at; value = Rattle.ds_plan.specs.declared.host.Secret.TheVariants.Seed (drafts.seed_bytes (text t)) }) o).value ≡ true
+    → has_secret_length (or_default {B = Placed Secret} (drafts.placed_key h) (λ t. record { at = t.at; value = Rattle.ds_plan.specs.declared.host.Secret.TheVariants.Seed (drafts.seed_bytes (text t)) }) o).value ≡ true
 secret_by h None = placed_key_is (member (codes "key") h) h.at
 secret_by h (Some t) = seed_is (text t)
 
@@ -309,7 +313,7 @@ limits_by : (names : List (List ℕ)) (root : Spot) → Limits (draft_by names r
 unfolding draft_by
 limits_by names root = record {
   hosts = take_few 16 (host_of names) (member_items (codes "hosts") root);
-  budget = between 1 20000 _ (omega arith);
+  budget = between 1 20000 (member_number (codes "budget") 1000 root) (omega arith);
   certs = le-leb _ _ (omega (arith, flat_few (drafts.cert_of names) (take 256 (member_items (codes "certs") root)) (cert_short names), first_few 256 (member_items (codes "certs") root)));
   links = take_few 16 (drafts.placed_host names) (member_items (codes "links") root);
   events = events_few names (member (codes "events") root);

@@ -185,7 +185,7 @@ host_sizes keys h l =
     let to_9 = and_from _ _ to_8 (all_map (λ p. nat_le p.made 2147483647) (process keys) (or_empty h.procs) (all_more proc_limits (λ p. nat_le p.made 2147483647) (or_empty h.procs) (λ p e. and_first (nat_le p.made 2147483647) _ e) l.each_proc)) in
     let to_10 = and_from _ _ to_9 (all_map (λ b. is_between 1 256 b.room) (mailbox keys) (or_empty h.boxes) l.each_box) in
     let to_11 = and_from _ _ to_10 (all_map (λ x. is_between 1 256 x.room && nat_lt x.until (2 ^ 64)) (lane keys) (or_empty h.lanes)
-        (all_more lane_limits (λ x. is_between 1 256 x.room && nat_lt x.until (2 ^ 64)) (or_empty h.lanes) (λ x e. and_first (is_between 1 256 x.room && nat_lt x.until (2 ^ 64)) _ e) l.each_lane)) in
+    (all_more lane_limits (λ x. is_between 1 256 x.room && nat_lt x.until (2 ^ 64)) (or_empty h.lanes) (λ x e. and_first (is_between 1 256 x.room && nat_lt x.until (2 ^ 64)) _ e) l.each_lane)) in
     and_from _ _ to_11 (all_map (λ i. is_between 1 32 i.lane) inlet (or_empty h.inlets) l.each_inlet)
 
 -- ---- categories
@@ -268,11 +268,11 @@ module _ (keys : List PubKey) (facts : Facts) (size : length facts.makers ≡ le
     state_says parts =
         all_append q (flat_map plan.process_labels (map (process keys) (or_empty h.procs))) (flat_map (λ b. b.label) (map (mailbox keys) (or_empty h.boxes)))
         (all_flat q plan.process_labels (map (process keys) (or_empty h.procs))
-            (all_map (λ p. list_all q (plan.process_labels p)) (process keys) (or_empty h.procs)
-                (each_kept (rules.proc_rules facts here (or_empty h.map)) (λ p. list_all q (plan.process_labels (process keys p))) (or_empty h.procs) proc_says parts.procs)))
+        (all_map (λ p. list_all q (plan.process_labels p)) (process keys) (or_empty h.procs)
+        (each_kept (rules.proc_rules facts here (or_empty h.map)) (λ p. list_all q (plan.process_labels (process keys p))) (or_empty h.procs) proc_says parts.procs)))
         (all_flat q (λ b. b.label) (map (mailbox keys) (or_empty h.boxes))
-            (all_map (λ b. list_all q b.label) (mailbox keys) (or_empty h.boxes)
-                (each_kept (rules.box_rules facts here (or_empty h.map) (length (or_empty h.procs))) (λ b. list_all q (mailbox keys b).label) (or_empty h.boxes) box_says parts.boxes)))
+        (all_map (λ b. list_all q b.label) (mailbox keys) (or_empty h.boxes)
+        (each_kept (rules.box_rules facts here (or_empty h.map) (length (or_empty h.procs))) (λ b. list_all q (mailbox keys b).label) (or_empty h.boxes) box_says parts.boxes)))
 
   -- ---- lanes
 
@@ -314,14 +314,14 @@ module _ (keys : List PubKey) (facts : Facts) (size : length facts.makers ≡ le
       let la = and_second (nat_lt (number_of a.to.value) (length keys)) _ fa in
       let lb = and_second (nat_lt (number_of b.to.value) (length keys)) _ fb in
       let labels = one_label keys facts.makers size few different a.label b.label
-          (leb-true _ _ (and_second (list_all knows a.label) (nat_le (length a.label) 64) la)) (leb-true _ _ (and_second (list_all knows b.label) (nat_le (length b.label) 64) lb))
-          (and_first (list_all knows a.label) (nat_le (length a.label) 64) la) (and_first (list_all knows b.label) (nat_le (length b.label) 64) lb)
-          (and_second (number_of a.to.value == number_of b.to.value) _ e) in
+      (leb-true _ _ (and_second (list_all knows a.label) (nat_le (length a.label) 64) la)) (leb-true _ _ (and_second (list_all knows b.label) (nat_le (length b.label) 64) lb))
+      (and_first (list_all knows a.label) (nat_le (length a.label) 64) la) (and_first (list_all knows b.label) (nat_le (length b.label) 64) lb)
+      (and_second (number_of a.to.value == number_of b.to.value) _ e) in
       and_from _ (rules.has_each b.label a.label)
       (and_from (same_host a.to.value b.to.value) (rules.has_each a.label b.label)
-          (one_host a.to.value b.to.value (length keys) few (ltb-true _ _ (and_first (nat_lt (number_of a.to.value) (length keys)) _ fa)) (ltb-true _ _ (and_first (nat_lt (number_of b.to.value) (length keys)) _ fb))
-              (number_eq (number_of a.to.value) (number_of b.to.value) (and_first (number_of a.to.value == number_of b.to.value) _ e)))
-          (and_first (rules.has_each a.label b.label) (rules.has_each b.label a.label) labels))
+      (one_host a.to.value b.to.value (length keys) few (ltb-true _ _ (and_first (nat_lt (number_of a.to.value) (length keys)) _ fa)) (ltb-true _ _ (and_first (nat_lt (number_of b.to.value) (length keys)) _ fb))
+      (number_eq (number_of a.to.value) (number_of b.to.value) (and_first (number_of a.to.value == number_of b.to.value) _ e)))
+      (and_first (rules.has_each a.label b.label) (rules.has_each b.label a.label) labels))
       (and_second (rules.has_each a.label b.label) (rules.has_each b.label a.label) labels)
 
   lanes_fit : (xs : List DraftLane) → list_all lane_limits xs ≡ true → flat_map (rules.lane_rules facts) xs ≡ [] → list_all lane_fits xs ≡ true
@@ -355,4 +355,4 @@ module _ (keys : List PubKey) (facts : Facts) (size : length facts.makers ≡ le
       and_from _ _
       (new_map inlet_fits rules.same_inlet plan.same_inlet inlet inlet_finer [] xs refl (each_kept (rules.inlet_rules facts) inlet_fits xs inlet_is e) (repeats_new rules.same_inlet rules.inlet_place [] xs r))
       (all_map (λ i. not (plan.comes_by_lane facts.receivers here i.from i.lane)) inlet xs
-          (each_kept (rules.inlet_of_lane facts here) (λ i. not (plan.comes_by_lane facts.receivers here (number_of i.from.value) i.lane)) xs (λ i k. kept _ _ _ k) m))
+      (each_kept (rules.inlet_of_lane facts here) (λ i. not (plan.comes_by_lane facts.receivers here (number_of i.from.value) i.lane)) xs (λ i k. kept _ _ _ k) m))

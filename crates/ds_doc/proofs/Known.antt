@@ -117,11 +117,11 @@ origin_kept keys makers c size different known =
     let within : number_of c.host < length keys = omega (arith, size, known_within makers c known) in
     let found = get_within keys (number_of c.host) within in
     let place : place_of_key keys (key_or (slice_get keys (number_of c.host))) ≡ number_of c.host =
-        subst (λ o. place_of_key keys (key_or o) ≡ number_of c.host) (sym found.1) (key_place keys (number_of c.host) found.0 different found.1) in
+    subst (λ o. place_of_key keys (key_or o) ≡ number_of c.host) (sym found.1) (key_place keys (number_of c.host) found.0 different found.1) in
     λ i. record {
-        host = place i;
-        process = quotient c.process c.number (known_number makers c known) i;
-        number = remainder c.process c.number (known_number makers c known) i;
+      host = place i;
+      process = quotient c.process c.number (known_number makers c known) i;
+      number = remainder c.process c.number (known_number makers c known) i;
     }
 
 pub known_doc : (keys : List PubKey) (makers : List Maker) (c : CategoryName) → length makers ≡ length keys → are_different same_key keys ≡ true
@@ -154,8 +154,8 @@ one_category keys makers x y size few different kx ky e =
     let host = one_host x.host y.host (length keys) few (omega (arith, size, known_within makers x kx)) (omega (arith, size, known_within makers y ky)) (ap (λ o. o.host) origins) in
     and_from _ (same_kind x.kind y.kind)
     (and_from _ (x.number == y.number)
-        (and_from (same_host x.host y.host) (x.process == y.process) host (same_number x.process y.process (ap (λ o. o.process) origins)))
-        (same_number x.number y.number (ap (λ o. o.number) origins)))
+    (and_from (same_host x.host y.host) (x.process == y.process) host (same_number x.process y.process (ap (λ o. o.process) origins)))
+    (same_number x.number y.number (ap (λ o. o.number) origins)))
     (same_kind_of x.kind y.kind (ap (λ c. c.kind) same))
 
 -- the host's own category has its key

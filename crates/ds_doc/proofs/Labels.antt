@@ -47,7 +47,7 @@ joined_all q keys members (c ∷ cs) e g =
     let d = category_of keys c in
     joined_all q keys (joined members d) cs
     (if_all q (nat_le (length (with_member by_name d members)) 64) (with_member by_name d members) members
-        (with_all q d members (and_first (q d) (list_all (λ x. q (category_of keys x)) cs) g) e) e)
+    (with_all q d members (and_first (q d) (list_all (λ x. q (category_of keys x)) cs) g) e) e)
     (and_second (q d) (list_all (λ x. q (category_of keys x)) cs) g)
 
 pub label_all : (q : Category → Bool) (keys : List PubKey) (cs : List (Placed CategoryName)) → list_all (λ c. q (category_of keys c)) cs ≡ true → list_all q (label keys cs) ≡ true
@@ -103,7 +103,7 @@ joined_has keys d members (c ∷ cs) few =
     let rest = joined_has keys d wider cs (omega (arith, few, size)) in
     let grown = has-with_member by_name names d x members in
     let now : has by_name d (joined_each keys wider cs) ≡ (has by_name d members || (by_name.same d x || list_any (λ y. by_name.same d (category_of keys y)) cs))
-        = rest ∙ ap (λ b. b || list_any (λ y. by_name.same d (category_of keys y)) cs) grown ∙ or_joins (by_name.same d x) (has by_name d members) (list_any (λ y. by_name.same d (category_of keys y)) cs) in
+    = rest ∙ ap (λ b. b || list_any (λ y. by_name.same d (category_of keys y)) cs) grown ∙ or_joins (by_name.same d x) (has by_name d members) (list_any (λ y. by_name.same d (category_of keys y)) cs) in
     subst (λ zs. has by_name d (joined_each keys zs cs) ≡ (has by_name d members || (by_name.same d x || list_any (λ y. by_name.same d (category_of keys y)) cs))) (sym same) now
 
 pub label_has : (keys : List PubKey) (d : Category) (cs : List (Placed CategoryName)) → length cs ≤ 64 → has by_name d (label keys cs) ≡ list_any (λ c. by_name.same d (category_of keys c)) cs
@@ -135,7 +135,7 @@ module _ (keys : List PubKey) (makers : List Maker) (size : length makers ≡ le
   found (x ∷ xs) y e k h =
       either (by_name.same (category_of keys y) (category_of keys x)) (list_any (λ c. by_name.same (category_of keys y) (category_of keys c)) xs) (same_named x.value y.value) (stood same_value xs y)
       (λ g. one_category keys makers x.value y.value size few different (and_first (knows x) (list_all knows xs) e) k
-          ((same-is by_name names (category_of keys x) (category_of keys y)).1 (sym ((same-is by_name names (category_of keys y) (category_of keys x)).0 g))))
+      ((same-is by_name names (category_of keys x) (category_of keys y)).1 (sym ((same-is by_name names (category_of keys y) (category_of keys x)).0 g))))
       (found xs y (and_second (knows x) (list_all knows xs) e) k) h
     where
       either : (a b c d : Bool) → (a ≡ true → c ≡ true) → (b ≡ true → d ≡ true) → (a || b) ≡ true → (c || d) ≡ true

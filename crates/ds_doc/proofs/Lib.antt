@@ -12,3 +12,5 @@ pub mod Tests
 pub mod Whole
 pub mod Drafts
 pub mod Answered
+pub mod Heads
+pub mod Rooms

@@ -121,7 +121,7 @@ module _ (keys : List PubKey) (facts : Facts) (size : length facts.makers ≡ le
   proc_hosts_there here rows p e =
       all_flat is_there plan.op_hosts (map (op keys) p.script)
       (all_map (λ o. list_all is_there (plan.op_hosts o)) (op keys) p.script
-          (each_kept (rules.unknown_in_op facts (length p.script)) (λ o. list_all is_there (plan.op_hosts (op keys o))) p.script (op_hosts_there (length p.script)) (rest_kept _ _ e)))
+      (each_kept (rules.unknown_in_op facts (length p.script)) (λ o. list_all is_there (plan.op_hosts (op keys o))) p.script (op_hosts_there (length p.script)) (rest_kept _ _ e)))
 
   lane_host_there : (l : DraftLane) → rules.lane_rules facts l ≡ [] → is_there (lane keys l).to ≡ true
   unfolding rules.lane_rules lane
@@ -132,11 +132,11 @@ module _ (keys : List PubKey) (facts : Facts) (size : length facts.makers ≡ le
   hosts_there here h parts =
       all_append is_there (map (λ l. l.to) (map (lane keys) (or_empty h.lanes)) ++ map (λ i. i.from) (map inlet (or_empty h.inlets))) (flat_map (λ p. flat_map plan.op_hosts p.script) (map (process keys) (or_empty h.procs)))
       (all_append is_there (map (λ l. l.to) (map (lane keys) (or_empty h.lanes))) (map (λ i. i.from) (map inlet (or_empty h.inlets)))
-          (all_map is_there (λ l. l.to) (map (lane keys) (or_empty h.lanes)) (all_map (λ l. is_there l.to) (lane keys) (or_empty h.lanes) (each_kept (rules.lane_rules facts) (λ l. is_there (lane keys l).to) (or_empty h.lanes) lane_host_there parts.lanes)))
-          (all_map is_there (λ i. i.from) (map inlet (or_empty h.inlets)) (all_map (λ i. is_there i.from) inlet (or_empty h.inlets) (each_kept (rules.inlet_rules facts) (λ i. is_there (number_of i.from.value)) (or_empty h.inlets) (λ i k. kept _ _ _ k) parts.inlets))))
+      (all_map is_there (λ l. l.to) (map (lane keys) (or_empty h.lanes)) (all_map (λ l. is_there l.to) (lane keys) (or_empty h.lanes) (each_kept (rules.lane_rules facts) (λ l. is_there (lane keys l).to) (or_empty h.lanes) lane_host_there parts.lanes)))
+      (all_map is_there (λ i. i.from) (map inlet (or_empty h.inlets)) (all_map (λ i. is_there i.from) inlet (or_empty h.inlets) (each_kept (rules.inlet_rules facts) (λ i. is_there (number_of i.from.value)) (or_empty h.inlets) (λ i k. kept _ _ _ k) parts.inlets))))
       (all_flat is_there (λ p. flat_map plan.op_hosts p.script) (map (process keys) (or_empty h.procs))
-          (all_map (λ p. list_all is_there (flat_map plan.op_hosts p.script)) (process keys) (or_empty h.procs)
-              (each_kept (rules.proc_rules facts here (or_empty h.map)) (λ p. list_all is_there (flat_map plan.op_hosts (process keys p).script)) (or_empty h.procs) (proc_hosts_there here (or_empty h.map)) parts.procs)))
+      (all_map (λ p. list_all is_there (flat_map plan.op_hosts p.script)) (process keys) (or_empty h.procs)
+      (each_kept (rules.proc_rules facts here (or_empty h.map)) (λ p. list_all is_there (flat_map plan.op_hosts (process keys p).script)) (or_empty h.procs) (proc_hosts_there here (or_empty h.map)) parts.procs)))
 
   -- ---- owners
 
@@ -149,7 +149,7 @@ module _ (keys : List PubKey) (facts : Facts) (size : length facts.makers ≡ le
   owners_there here h parts =
       subst (λ n. list_all (λ b. nat_lt b.owner n) (map (mailbox keys) (or_empty h.boxes)) ≡ true) (sym (length-map (or_empty h.procs) (process keys)))
       (all_map (λ b. nat_lt b.owner (length (or_empty h.procs))) (mailbox keys) (or_empty h.boxes)
-          (each_kept (rules.box_rules facts here (or_empty h.map) (length (or_empty h.procs))) (λ b. nat_lt (mailbox keys b).owner (length (or_empty h.procs))) (or_empty h.boxes) (box_owner here (or_empty h.map) (length (or_empty h.procs))) parts.boxes))
+      (each_kept (rules.box_rules facts here (or_empty h.map) (length (or_empty h.procs))) (λ b. nat_lt (mailbox keys b).owner (length (or_empty h.procs))) (or_empty h.boxes) (box_owner here (or_empty h.map) (length (or_empty h.procs))) parts.boxes))
 
   -- ---- categories
 
@@ -199,14 +199,14 @@ module _ (keys : List PubKey) (facts : Facts) (size : length facts.makers ≡ le
   proc_known here rows p e =
       all_flat is_known_here plan.op_categories (map (op keys) p.script)
       (all_map (λ o. list_all is_known_here (plan.op_categories o)) (op keys) p.script
-          (each_kept (rules.unknown_in_op facts (length p.script)) (λ o. list_all is_known_here (plan.op_categories (op keys o))) p.script (op_known (length p.script)) (rest_kept _ _ e)))
+      (each_kept (rules.unknown_in_op facts (length p.script)) (λ o. list_all is_known_here (plan.op_categories (op keys o))) p.script (op_known (length p.script)) (rest_kept _ _ e)))
 
   scripts_known : (here : ℕ) (h : DraftHost) → HostParts facts here h → list_all is_known_here (plan.script_categories (host keys h)) ≡ true
   unfolding host
   scripts_known here h parts =
       all_flat is_known_here (λ p. flat_map plan.op_categories p.script) (map (process keys) (or_empty h.procs))
       (all_map (λ p. list_all is_known_here (flat_map plan.op_categories p.script)) (process keys) (or_empty h.procs)
-          (each_kept (rules.proc_rules facts here (or_empty h.map)) (λ p. list_all is_known_here (flat_map plan.op_categories (process keys p).script)) (or_empty h.procs) (proc_known here (or_empty h.map)) parts.procs))
+      (each_kept (rules.proc_rules facts here (or_empty h.map)) (λ p. list_all is_known_here (flat_map plan.op_categories (process keys p).script)) (or_empty h.procs) (proc_known here (or_empty h.map)) parts.procs))
 
   lanes_all : (here : ℕ) (h : DraftHost) (q : Category → Bool) → ((c : Placed CategoryName) → rules.lane_category_rules facts c ≡ [] → q (category_of keys c) ≡ true) → HostParts facts here h
       → list_all q (plan.lane_categories (host keys h)) ≡ true
@@ -223,9 +223,9 @@ module _ (keys : List PubKey) (facts : Facts) (size : length facts.makers ≡ le
       let x = host keys h in
       all_append is_known_here (x.map ++ plan.state_categories x ++ plan.lane_categories x) (plan.script_categories x)
       (all_append is_known_here (x.map ++ plan.state_categories x) (plan.lane_categories x)
-          (all_append is_known_here x.map (plan.state_categories x) (map_known here h parts)
-              (state_says keys facts size few different here h is_known_here (λ c e. known_of keys facts size few different c (state_known keys facts size few different here (or_empty h.map) c e)) parts))
-          (lanes_all here h is_known_here (λ c e. known_of keys facts size few different c (lane_known keys facts size few different c e)) parts))
+      (all_append is_known_here x.map (plan.state_categories x) (map_known here h parts)
+      (state_says keys facts size few different here h is_known_here (λ c e. known_of keys facts size few different c (state_known keys facts size few different here (or_empty h.map) c e)) parts))
+      (lanes_all here h is_known_here (λ c e. known_of keys facts size few different c (lane_known keys facts size few different c e)) parts))
       (scripts_known here h parts)
 
   abbrev is_made_here : Category → Bool
@@ -250,8 +250,8 @@ module _ (keys : List PubKey) (facts : Facts) (size : length facts.makers ≡ le
   all_mapped here h at parts =
       subst (λ k. list_all (plan.is_mapped k (host keys h).map) (plan.state_categories (host keys h)) ≡ true) (sym (key_of_host h))
       (subst (λ rows. list_all (plan.is_mapped (values.host_key h) rows) (plan.state_categories (host keys h)) ≡ true) (sym (map_of_host h))
-          (state_says keys facts size few different here h (plan.is_mapped (values.host_key h) (map (category_of keys) (or_empty h.map)))
-              (λ c e. state_mapped keys facts size few different here (values.host_key h) (or_empty h.map) c at e) parts))
+      (state_says keys facts size few different here h (plan.is_mapped (values.host_key h) (map (category_of keys) (or_empty h.map)))
+      (λ c e. state_mapped keys facts size few different here (values.host_key h) (or_empty h.map) c at e) parts))
 
   not_from : (b : Bool) → b ≡ false → not b ≡ true
   not_from true e = absurd cc
@@ -276,14 +276,14 @@ module _ (keys : List PubKey) (facts : Facts) (size : length facts.makers ≡ le
   rows_away here key rows at e =
       all_map (λ c. not (same_key c.creator key)) (category_of keys) rows
       (each_kept (rules.row_rules facts here) (λ c. not (same_key (category_of keys c).creator key)) rows
-          (λ c k. not_from _ (other_key keys facts.makers here key c.value size different at (row_known here c k) (from_not _ (row_away here c k)))) e)
+      (λ c k. not_from _ (other_key keys facts.makers here key c.value size different at (row_known here c k) (from_not _ (row_away here c k)))) e)
 
   all_rows : (here : ℕ) (h : DraftHost) → HostLimits h → slice_get keys here ≡ Some (values.host_key h) → HostParts facts here h
       → plan.are_rows (plan_keys.host_key (host keys h)) (host keys h).map ≡ true
   all_rows here h limits at parts =
       subst (λ k. plan.are_rows k (host keys h).map ≡ true) (sym (key_of_host h))
       (subst (λ rows. plan.are_rows (values.host_key h) rows ≡ true) (sym (map_of_host h))
-          (and_from _ _ (rows_once here (or_empty h.map) limits.rows parts.rows) (rows_away here (values.host_key h) (or_empty h.map) at parts.rows)))
+      (and_from _ _ (rows_once here (or_empty h.map) limits.rows parts.rows) (rows_away here (values.host_key h) (or_empty h.map) at parts.rows)))
 
   -- ---- setup
 
@@ -324,12 +324,12 @@ module _ (keys : List PubKey) (facts : Facts) (size : length facts.makers ≡ le
           let p2 = front_kept _ _ p3 in
           or_right _ _
           (and_from _ _ (and_from _ _ (and_from _ _ (and_from _ _ (and_from _ _
-              (none_listed silent (process keys) h.procs (front_kept _ _ p2) e)
-              (none_listed silent (mailbox keys) h.boxes (rest_kept _ _ p2) e))
-              (none_listed silent (lane keys) h.lanes (rest_kept _ _ p3) e))
-              (none_listed silent inlet h.inlets (rest_kept _ _ p4) e))
-              (none_listed silent (category_of keys) h.map (rest_kept _ _ p5) e))
-              (no_address silent h.address (rest_kept _ _ parts.silent) e))
+          (none_listed silent (process keys) h.procs (front_kept _ _ p2) e)
+          (none_listed silent (mailbox keys) h.boxes (rest_kept _ _ p2) e))
+          (none_listed silent (lane keys) h.lanes (rest_kept _ _ p3) e))
+          (none_listed silent inlet h.inlets (rest_kept _ _ p4) e))
+          (none_listed silent (category_of keys) h.map (rest_kept _ _ p5) e))
+          (no_address silent h.address (rest_kept _ _ parts.silent) e))
 
   -- ---- what stands once
 

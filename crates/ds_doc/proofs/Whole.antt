@@ -310,7 +310,7 @@ if_length : (b : Bool) (xs ys : List (List ℕ)) (n : ℕ) → length xs ≤ n �
 if_length true xs ys n h g = h
 if_length false xs ys n h g = g
 
-once_length : (before xs : List (List ℕ)) → length (plan.each_once bytes_eq before xs) ≤ length before + length xs
+pub once_length : (before xs : List (List ℕ)) → length (plan.each_once bytes_eq before xs) ≤ length before + length xs
 once_length before [] = omega arith
 once_length before (x ∷ xs) =
     if_length (stood bytes_eq before x) (plan.each_once bytes_eq before xs) (plan.each_once bytes_eq (before ++ x ∷ []) xs) (length before + suc (length xs))
@@ -328,7 +328,7 @@ made_length h = by_secret h.secret.value (address h.address)
     by_secret (Rattle.ds_plan.specs.declared.host.Secret.TheVariants.Seed secret) (Some a) = by_address (plan.is_address a) _
     by_secret (Rattle.ds_plan.specs.declared.host.Secret.TheVariants.Key key) a = omega arith
 
-all_made_length : (hs : List DraftHost) → length (flat_map rules.host_address hs) ≤ length hs
+pub all_made_length : (hs : List DraftHost) → length (flat_map rules.host_address hs) ≤ length hs
 all_made_length [] = omega arith
 all_made_length (h ∷ hs) = omega (arith, made_length h, all_made_length hs, length-append (rules.host_address h) (flat_map rules.host_address hs))
 
@@ -388,7 +388,7 @@ sizes_are : (keys : List PubKey) (d : Draft) → Limits d → plan.has_sizes (do
 unfolding doc_by
 sizes_are keys d limits =
     and_from _ _ (and_from _ _ (and_from _ _ (and_from _ _ (at_most_map 16 (host keys) d.hosts limits.hosts) limits.budget) (at_most_map 256 (certificate keys) d.certs limits.certs))
-        (at_most_map 16 (λ n. number_of n.value) d.links limits.links)) (events_length d.events limits.events)
+    (at_most_map 16 (λ n. number_of n.value) d.links limits.links)) (events_length d.events limits.events)
 
 links_there : (keys : List PubKey) (d : Draft) → Parts (rules.facts_of d) d → list_all (λ n. nat_lt n (length (rules.facts_of d).makers)) (doc_by keys d).links ≡ true
 unfolding doc_by
@@ -424,30 +424,30 @@ document_by d limits full e =
           (subst (λ xs. plan.all_places (plan.are_inlets_new facts.receivers) 0 xs ≡ true) (sym by_hosts) (places_by (plan.are_inlets_new facts.receivers) (host keys) 0 d.hosts (λ n h at. (tests n h at).inlets)));
       hosts = subst (λ count. list_all (λ h. list_all (λ n. nat_lt n count) (plan.named_hosts h)) doc.hosts ≡ true) (sym (count_is keys d))
           (subst (λ xs. list_all (λ h. list_all (λ n. nat_lt n (length facts.makers)) (plan.named_hosts h)) xs ≡ true) (sym by_hosts)
-              (lists_by (λ h. list_all (λ n. nat_lt n (length facts.makers)) (plan.named_hosts h)) (host keys) d.hosts (λ n h at. (tests n h at).hosts)));
+          (lists_by (λ h. list_all (λ n. nat_lt n (length facts.makers)) (plan.named_hosts h)) (host keys) d.hosts (λ n h at. (tests n h at).hosts)));
       cert_hosts = subst (λ count. list_all (λ c. list_all (λ n. nat_lt n count) (plan.cert_hosts c)) doc.certs ≡ true) (sym (count_is keys d))
           (subst (λ xs. list_all (λ c. list_all (λ n. nat_lt n (length facts.makers)) (plan.cert_hosts c)) xs ≡ true) (sym by_certs)
-              (all_map (λ c. list_all (λ n. nat_lt n (length facts.makers)) (plan.cert_hosts c)) (certificate keys) d.certs
-                  (each_kept (rules.cert_rules facts) (λ c. list_all (λ n. nat_lt n (length facts.makers)) (plan.cert_hosts (certificate keys c))) d.certs (cert_there facts keys) parts.certs)));
+          (all_map (λ c. list_all (λ n. nat_lt n (length facts.makers)) (plan.cert_hosts c)) (certificate keys) d.certs
+          (each_kept (rules.cert_rules facts) (λ c. list_all (λ n. nat_lt n (length facts.makers)) (plan.cert_hosts (certificate keys c))) d.certs (cert_there facts keys) parts.certs)));
       links = subst (λ count. list_all (λ n. nat_lt n count) doc.links ≡ true) (sym (count_is keys d)) (links_there keys d parts);
       owners = subst (λ xs. list_all (λ h. list_all (λ b. nat_lt b.owner (length h.procs)) h.boxes) xs ≡ true) (sym by_hosts)
           (lists_by (λ h. list_all (λ b. nat_lt b.owner (length h.procs)) h.boxes) (host keys) d.hosts (λ n h at. (tests n h at).owners));
       events = subst (λ ms. list_all (plan.is_event ms (plan.lane_counts doc) (length doc.links)) (plan.events_of doc.events) ≡ true) (sym (makers_are keys d))
           (subst (λ ls. list_all (plan.is_event facts.makers ls (length doc.links)) (plan.events_of doc.events) ≡ true) (sym (lanes_are keys d))
-              (subst (λ count. list_all (plan.is_event facts.makers facts.lanes count) (plan.events_of doc.events) ≡ true) (sym (links_are keys d)) (events_by keys d parts)));
+          (subst (λ count. list_all (plan.is_event facts.makers facts.lanes count) (plan.events_of doc.events) ≡ true) (sym (links_are keys d)) (events_by keys d parts)));
       known = subst (λ ms. list_all (λ h. list_all (λ c. is_known ms (origin (plan_keys.host_keys doc.hosts) c)) (h.map ++ plan.state_categories h ++ plan.lane_categories h ++ plan.script_categories h)) doc.hosts ≡ true) (sym (makers_are keys d))
           (subst (λ ks. list_all (λ h. list_all (λ c. is_known facts.makers (origin ks c)) (h.map ++ plan.state_categories h ++ plan.lane_categories h ++ plan.script_categories h)) doc.hosts ≡ true) (sym (keys_are keys d))
-              (subst (λ xs. list_all (λ h. list_all (λ c. is_known facts.makers (origin keys c)) (h.map ++ plan.state_categories h ++ plan.lane_categories h ++ plan.script_categories h)) xs ≡ true) (sym by_hosts)
-                  (lists_by (λ h. list_all (λ c. is_known facts.makers (origin keys c)) (h.map ++ plan.state_categories h ++ plan.lane_categories h ++ plan.script_categories h)) (host keys) d.hosts (λ n h at. (tests n h at).known))));
+          (subst (λ xs. list_all (λ h. list_all (λ c. is_known facts.makers (origin keys c)) (h.map ++ plan.state_categories h ++ plan.lane_categories h ++ plan.script_categories h)) xs ≡ true) (sym by_hosts)
+          (lists_by (λ h. list_all (λ c. is_known facts.makers (origin keys c)) (h.map ++ plan.state_categories h ++ plan.lane_categories h ++ plan.script_categories h)) (host keys) d.hosts (λ n h at. (tests n h at).known))));
       cert_known = subst (λ ms. list_all (λ c. list_all (λ x. is_known ms (origin (plan_keys.host_keys doc.hosts) x)) (plan.cert_categories c)) doc.certs ≡ true) (sym (makers_are keys d))
           (subst (λ ks. list_all (λ c. list_all (λ x. is_known facts.makers (origin ks x)) (plan.cert_categories c)) doc.certs ≡ true) (sym (keys_are keys d))
-              (subst (λ xs. list_all (λ c. list_all (λ x. is_known facts.makers (origin keys x)) (plan.cert_categories c)) xs ≡ true) (sym by_certs)
-                  (all_map (λ c. list_all (λ x. is_known facts.makers (origin keys x)) (plan.cert_categories c)) (certificate keys) d.certs
-                      (each_kept (rules.cert_rules facts) (λ c. list_all (λ x. is_known facts.makers (origin keys x)) (plan.cert_categories (certificate keys c))) d.certs (cert_knows facts keys (size_is d) few different) parts.certs))));
+          (subst (λ xs. list_all (λ c. list_all (λ x. is_known facts.makers (origin keys x)) (plan.cert_categories c)) xs ≡ true) (sym by_certs)
+          (all_map (λ c. list_all (λ x. is_known facts.makers (origin keys x)) (plan.cert_categories c)) (certificate keys) d.certs
+          (each_kept (rules.cert_rules facts) (λ c. list_all (λ x. is_known facts.makers (origin keys x)) (plan.cert_categories (certificate keys c))) d.certs (cert_knows facts keys (size_is d) few different) parts.certs))));
       made = subst (λ ms. list_all (λ h. list_all (λ c. is_made ms (origin (plan_keys.host_keys doc.hosts) c)) (plan.state_categories h ++ plan.lane_categories h)) doc.hosts ≡ true) (sym (makers_are keys d))
           (subst (λ ks. list_all (λ h. list_all (λ c. is_made facts.makers (origin ks c)) (plan.state_categories h ++ plan.lane_categories h)) doc.hosts ≡ true) (sym (keys_are keys d))
-              (subst (λ xs. list_all (λ h. list_all (λ c. is_made facts.makers (origin keys c)) (plan.state_categories h ++ plan.lane_categories h)) xs ≡ true) (sym by_hosts)
-                  (lists_by (λ h. list_all (λ c. is_made facts.makers (origin keys c)) (plan.state_categories h ++ plan.lane_categories h)) (host keys) d.hosts (λ n h at. (tests n h at).made))));
+          (subst (λ xs. list_all (λ h. list_all (λ c. is_made facts.makers (origin keys c)) (plan.state_categories h ++ plan.lane_categories h)) xs ≡ true) (sym by_hosts)
+          (lists_by (λ h. list_all (λ c. is_made facts.makers (origin keys c)) (plan.state_categories h ++ plan.lane_categories h)) (host keys) d.hosts (λ n h at. (tests n h at).made))));
       mapped = subst (λ xs. list_all (λ h. list_all (plan.is_mapped (plan_keys.host_key h) h.map) (plan.state_categories h)) xs ≡ true) (sym by_hosts)
           (lists_by (λ h. list_all (plan.is_mapped (plan_keys.host_key h) h.map) (plan.state_categories h)) (host keys) d.hosts (λ n h at. (tests n h at).mapped));
       rows = subst (λ xs. list_all (λ h. plan.are_rows (plan_keys.host_key h) h.map) xs ≡ true) (sym by_hosts) (lists_by (λ h. plan.are_rows (plan_keys.host_key h) h.map) (host keys) d.hosts (λ n h at. (tests n h at).rows));
@@ -455,14 +455,14 @@ document_by d limits full e =
           (subst (λ xs. plan.all_places (plan.host_has_leaves facts.signers) 0 xs ≡ true) (sym by_hosts) (places_by (plan.host_has_leaves facts.signers) (host keys) 0 d.hosts (λ n h at. (tests n h at).leaves)));
       addresses = subst (λ made. plan.all_places (plan.has_address_room made (flat_map plan.given_addresses doc.certs)) 0 doc.hosts ≡ true) (sym (made_are keys d))
           (subst (λ xs. plan.all_places (plan.has_address_room (flat_map rules.host_address d.hosts) (flat_map plan.given_addresses xs)) 0 doc.hosts ≡ true) (sym by_certs)
-              (subst (λ gs. plan.all_places (plan.has_address_room (flat_map rules.host_address d.hosts) gs) 0 doc.hosts ≡ true) (sym (givens_are keys d.certs))
-                  (subst (λ xs. plan.all_places (plan.has_address_room (flat_map rules.host_address d.hosts) (map given_of (flat_map rules.given_in d.certs))) 0 xs ≡ true) (sym by_hosts) (rooms keys d limits.hosts full))));
+          (subst (λ gs. plan.all_places (plan.has_address_room (flat_map rules.host_address d.hosts) gs) 0 doc.hosts ≡ true) (sym (givens_are keys d.certs))
+          (subst (λ xs. plan.all_places (plan.has_address_room (flat_map rules.host_address d.hosts) (map given_of (flat_map rules.given_in d.certs))) 0 xs ≡ true) (sym by_hosts) (rooms keys d limits.hosts full))));
       silent = subst (λ xs. list_all plan.is_bare_if_silent xs ≡ true) (sym by_hosts) (lists_by plan.is_bare_if_silent (host keys) d.hosts (λ n h at. (tests n h at).silent));
       signers = subst (λ ms. list_all (λ n. runs (slice_get ms n)) (plan.signers_of doc.certs) ≡ true) (sym (makers_are keys d))
           (subst (λ xs. list_all (λ n. runs (slice_get facts.makers n)) (plan.signers_of xs) ≡ true) (sym by_certs)
-              (all_flat (λ n. runs (slice_get facts.makers n)) plan.signer_of (map (certificate keys) d.certs)
-                  (all_map (λ c. list_all (λ n. runs (slice_get facts.makers n)) (plan.signer_of c)) (certificate keys) d.certs
-                      (each_kept (rules.cert_rules facts) (λ c. list_all (λ n. runs (slice_get facts.makers n)) (plan.signer_of (certificate keys c))) d.certs (cert_runs facts keys) parts.certs))));
+          (all_flat (λ n. runs (slice_get facts.makers n)) plan.signer_of (map (certificate keys) d.certs)
+          (all_map (λ c. list_all (λ n. runs (slice_get facts.makers n)) (plan.signer_of c)) (certificate keys) d.certs
+          (each_kept (rules.cert_rules facts) (λ c. list_all (λ n. runs (slice_get facts.makers n)) (plan.signer_of (certificate keys c))) d.certs (cert_runs facts keys) parts.certs))));
     }
 
 pub document_of : (d : Draft) → Limits d → rules.over_full d ≡ [] → rules.rules d ≡ [] → IsDocument (doc_of d)

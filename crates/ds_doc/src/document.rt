@@ -35,10 +35,7 @@ pub fn read(alloc: Global, input: &[u8]) -> Result<Doc, DocFault>
 }
 
 /// The document that the input says, and the identity key of each host, none of a silent one. Each key is made once.
-pub fn read_keyed(
-    alloc: Global,
-    input: &[u8],
-) -> Result<(Doc, Vec<Option<TreeKey>>), DocFault>
+pub fn read_keyed(alloc: Global, input: &[u8]) -> Result<(Doc, Vec<Option<TreeKey>>), DocFault>
     ensures answer { readings.Answers input.now (readings.first_of result) }
     ensures document { IfOk result (λ r. IsDocument r.0) }
     ensures keys { IfOk result (λ r. r.1.items ≡ map identity_key r.0.hosts) }
@@ -167,6 +164,7 @@ fn read_parts(alloc: Global, value: &Value) -> Result<(Doc, Vec<Option<TreeKey>>
     answer_by(alloc, fault, &draft)
 }
 
+#[tactic(auto, using(crate::proofs::Answered::documented))]
 fn read_value(alloc: Global, value: &Value) -> Result<(Doc, Vec<Option<TreeKey>>), DocFault>
     ensures answer { readings.AnswersBy (readings.answer_of (view value.now)) (readings.first_of result) }
     ensures document { IfOk result (λ r. IsDocument r.0) }

@@ -36,6 +36,7 @@ fn ots_number(ots: OtsType) -> u32
 }
 
 /// The types and the identifier of a running host's key, the first 24 bytes of it.
+#[tactic(auto, using(crate::proofs::Heads::running))]
 fn running_head(alloc: Global, identity: Params, secret: &[u8; 32]) -> Result<Bytes, AllocError>
     ensures { IfOk result (λ b. b ≡ take 24 (public_key identity (derived_seed secret.now 0) (derived_id secret.now 0))) }
 {
