@@ -1,0 +1,17 @@
+//! Documents: what a JSON text says of hosts, their processes, mailboxes and lanes, certificates, links and events.
+//!
+//! [`read`] gives the document, or the least code of a rule that it breaks and the least place where it does.
+#![tactic(auto)]
+
+mod draft;
+mod fault;
+mod form;
+mod judge;
+mod reading;
+mod rules;
+mod size;
+mod spot;
+mod text;
+mod values;
+
+pub use fault::DocFault;
