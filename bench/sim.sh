@@ -5,7 +5,7 @@ here=$(cd "$(dirname "$0")" && pwd)
 folder=$(mktemp -d)
 trap 'rm -rf "$folder"' EXIT
 python3 "$here/documents.py" "$folder"
-"$here/../dstar" --version > /dev/null
+"$here/../dstar" --prove
 for name in large busy; do
     python3 - "$here/../dstar" "$folder/$name.json" <<'P'
 import json, subprocess, sys, time

@@ -6,3 +6,4 @@ pub mod CategoryLaws
 pub mod RecordLaws
 pub mod Wholes
 pub mod Places
+pub mod Same

@@ -1,5 +1,5 @@
 -- A desk that is one entry longer.
-use Rattle.std.specs.Prelude.{unwrap_or}
+use Rattle.std.specs.Prelude.{◌&&◌, unwrap_or}
 use Rattle.lms_sig.specs.Keys.{Key}
 use Rattle.lms_sig.specs.Parameters.{lms_code, ots_code, lms_type, ots_type, both_types, signature_length}
 use Rattle.lms_sig.specs.declared.params.Params.{Params}
@@ -58,11 +58,11 @@ pub passes : (test : Bool) (rule : Rule) → unless test rule ≡ None → test 
 passes true rule e = refl
 passes false rule e = absurd (grind arith)
 
--- where two rules hold, the second does
-pub second_holds : (one two : Bool) (first second : Rule) → first_rule (unless one first ∷ unless two second ∷ []) ≡ None → is_none (unless two second) ≡ true
-second_holds true true first second e = refl
-second_holds true false first second e = absurd (grind arith)
-second_holds false two first second e = absurd (grind arith)
+-- where two rules hold, the tests of both pass
+pub both_hold : (one two : Bool) (first second : Rule) → first_rule (unless one first ∷ unless two second ∷ []) ≡ None → (one && is_none (unless two second)) ≡ true
+both_hold true true first second e = refl
+both_hold true false first second e = absurd (grind arith)
+both_hold false two first second e = absurd (grind arith)
 
 -- the numbers of the types name them
 types_again : (lms : LmsType) (ots : OtsType) → unwrap_or (both_types (lms_type (lms_code lms)) (ots_type (ots_code ots))) (record { lms = H5; ots = W4 }) ≡ record { lms = lms; ots = ots }

@@ -52,7 +52,7 @@ abbrev pub desk_scheme : Scheme → Scheme
 desk_scheme s = record s {
   good = is_good_delegation;
   good_address = is_good_address;
-  delegation = λ k leaf by c to from until. signed_at (key_of k) leaf by c to from until;
+  delegation_signature = λ k leaf by c to from until. (signed_at (key_of k) leaf by c to from until).signature;
   spelling = spelling_of_delegation;
   read_cert = λ bytes. if_read (read_cert bytes);
   has_leaf = λ k leaf. nat_lt leaf (leaves_of (key_of k));

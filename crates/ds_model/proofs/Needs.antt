@@ -14,6 +14,8 @@ use Rattle.ds_model.specs.Scheme.{Scheme}
 use Rattle.ds_model.specs.Plan.{HostPlan}
 use Rattle.ds_model.specs.Mailbox.{PutIn, FoundFull, put_entry, box_needs}
 use Rattle.ds_model.specs.Lane.{Queued, QueueFull, Lifted, admit_entry, lane_needs, frame_limit}
+use Rattle.ds_cert.proofs.Same.{delegation_itself}
+use Rattle.ds_model.specs.Scheme.{delegation_by}
 use Rattle.ds_model.specs.Inlet.{Inlet, Fresh, Stale, is_fresh, number_entry, inlet_needs}
 use Rattle.ds_model.specs.Desk.{Desk, Delegated, Imported, Mapped, Act, Delegating, Importing, Mapping, act_entry, import_entry, import_rule, entry_unless, is_good, is_none, desk_needs, denied_needs, store_limit, address_limit}
 use Rattle.ds_cert.specs.NoDoubles.{is_kept, is_kept_address}
@@ -72,19 +74,19 @@ module _ (s : Scheme) (plan : HostPlan) (d : Desk) where
   delegate_may c to from until = go (nat_lt (length d.store) store_limit) (s.has_leaf plan.signing d.leaf) refl refl
     where
       go : (a b : Bool) → nat_lt (length d.store) store_limit ≡ a → s.has_leaf plan.signing d.leaf ≡ b →
-          desk_needs s plan (entry_unless (or_else (unless a StoreFull) (or_else (unless b KeySpent) None)) (Delegated (s.delegation plan.signing d.leaf plan.key c to from until))) d ≡ true
-      go true true p q = both _ _ p q
+          desk_needs s plan (entry_unless (or_else (unless a StoreFull) (or_else (unless b KeySpent) None)) (Delegated (delegation_by s plan.signing d.leaf plan.key c to from until))) d ≡ true
+      go true true p q = both _ _ (both _ _ p q) (delegation_itself (delegation_by s plan.signing d.leaf plan.key c to from until))
       go true false p q = ap not q
       go false b p q = or_left _ _ (not_below (length d.store) store_limit p)
 
-  kept_may : (new : Cert) (r : Option Rule) → import_rule d new ≡ r → desk_needs s plan (entry_unless (or_else None (or_else r None)) (Imported new)) d ≡ true
-  kept_may new None e = ap is_none e
-  kept_may (certs.Delegation new) (Some rule) e = go (is_kept new d.store || nat_lt (length d.store) store_limit) refl e
+  kept_may : (new : Cert) (r : Option Rule) → is_good s new ≡ true → import_rule d new ≡ r → desk_needs s plan (entry_unless (or_else None (or_else r None)) (Imported new)) d ≡ true
+  kept_may new None good e = both _ _ good (ap is_none e)
+  kept_may (certs.Delegation new) (Some rule) good e = go (is_kept new d.store || nat_lt (length d.store) store_limit) refl e
     where
       go : (b : Bool) → (is_kept new d.store || nat_lt (length d.store) store_limit) ≡ b → unless b StoreFull ≡ Some rule → denied_needs s plan rule d ≡ true
       go true p q = absurd (grind arith)
       go false p q = let same : StoreFull ≡ rule = cc in subst (λ r. denied_needs s plan r d ≡ true) same (or_left _ _ (not_below (length d.store) store_limit (second_false _ _ p)))
-  kept_may (certs.Address new) (Some rule) e = go (is_kept_address new d.addresses || nat_lt (length d.addresses) address_limit) refl e
+  kept_may (certs.Address new) (Some rule) good e = go (is_kept_address new d.addresses || nat_lt (length d.addresses) address_limit) refl e
     where
       go : (b : Bool) → (is_kept_address new d.addresses || nat_lt (length d.addresses) address_limit) ≡ b → unless b StoreFull ≡ Some rule → denied_needs s plan rule d ≡ true
       go true p q = absurd (grind arith)
@@ -92,11 +94,11 @@ module _ (s : Scheme) (plan : HostPlan) (d : Desk) where
 
   import_may : (o : Option Cert) → desk_needs s plan (import_entry s d o) d ≡ true
   import_may None = refl
-  import_may (Some new) = go (is_good s new)
+  import_may (Some new) = go (is_good s new) refl
     where
-      go : (b : Bool) → desk_needs s plan (entry_unless (or_else (unless b BadCert) (or_else (import_rule d new) None)) (Imported new)) d ≡ true
-      go true = kept_may new (import_rule d new) refl
-      go false = refl
+      go : (b : Bool) → is_good s new ≡ b → desk_needs s plan (entry_unless (or_else (unless b BadCert) (or_else (import_rule d new) None)) (Imported new)) d ≡ true
+      go true good = kept_may new (import_rule d new) good refl
+      go false bad = refl
 
   map_may : (c : Category) → desk_needs s plan (act_entry s plan d (Mapping c)) d ≡ true
   map_may c = go (is_known plan.key d.rows c || nat_lt (length d.rows) row_limit) refl

@@ -9,11 +9,11 @@ use Rattle.ds_cert.specs.declared.delegation.Delegation.{Delegation}
 use Rattle.ds_cert.specs.declared.address.Address.{Address}
 use Rattle.ds_cert.specs.declared.cert.Cert.{Cert}
 use Rattle.ds_cert.specs.declared.cert.Cert.TheVariants as certs
-use Rattle.ds_cert.specs.NoDoubles.{is_kept, is_kept_address, with_delegation, with_address}
+use Rattle.ds_cert.specs.NoDoubles.{same_delegation, is_kept, is_kept_address, with_delegation, with_address}
 use Rattle.ds_model.specs.Stepping.{stepping}
 use Rattle.ds_model.specs.FirstRule.{unless, first_rule}
 use Rattle.ds_model.specs.Mapping.{is_known, with_row, number_of, row_limit}
-use Rattle.ds_model.specs.Scheme.{Scheme}
+use Rattle.ds_model.specs.Scheme.{Scheme, delegation_by}
 use Rattle.ds_model.specs.Plan.{HostPlan}
 
 -- most delegations and most address certificates that a host keeps
@@ -83,7 +83,7 @@ import_entry s d (Some new) = entry_unless (first_rule (unless (is_good s new) B
 abbrev pub act_entry : Scheme → HostPlan → Desk → Act → DeskEntry
 act_entry s plan d (Delegating c to from until) =
     entry_unless (first_rule (unless (nat_lt (length d.store) store_limit) StoreFull ∷ unless (s.has_leaf plan.signing d.leaf) KeySpent ∷ []))
-    (Delegated (s.delegation plan.signing d.leaf plan.key c to from until))
+    (Delegated (delegation_by s plan.signing d.leaf plan.key c to from until))
 act_entry s plan d (Importing bytes) = import_entry s d (s.read_cert bytes)
 act_entry s plan d (Mapping c) = entry_unless (unless (is_known plan.key d.rows c || nat_lt (length d.rows) row_limit) TableFull) (Mapped c)
 
@@ -116,11 +116,15 @@ denied_needs s plan KeySpent d = not (s.has_leaf plan.signing d.leaf)
 denied_needs s plan BadCert d = true
 denied_needs s plan _ d = false
 
--- and any entry
+-- the delegation is the one that the host makes itself, at the next leaf of its key
+abbrev pub is_own : Scheme → HostPlan → Delegation → Desk → Bool
+is_own s plan new d = same_delegation new (delegation_by s plan.signing d.leaf plan.key new.category new.to new.from new.until)
+
+-- And any entry: of a delegation, that the host makes it and has the room and the leaf; of an import, that it is good and finds room.
 abbrev pub desk_needs : Scheme → HostPlan → DeskEntry → Desk → Bool
 desk_needs s plan (Ticked t) d = true
-desk_needs s plan (Delegated new) d = nat_lt (length d.store) store_limit && s.has_leaf plan.signing d.leaf
-desk_needs s plan (Imported new) d = is_none (import_rule d new)
+desk_needs s plan (Delegated new) d = (nat_lt (length d.store) store_limit && s.has_leaf plan.signing d.leaf) && is_own s plan new d
+desk_needs s plan (Imported new) d = is_good s new && is_none (import_rule d new)
 desk_needs s plan (Mapped c) d = is_known plan.key d.rows c || nat_lt (length d.rows) row_limit
 desk_needs s plan Looked d = true
 desk_needs s plan (Denied rule) d = denied_needs s plan rule d

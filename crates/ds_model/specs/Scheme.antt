@@ -1,4 +1,5 @@
--- What the plain world leaves open: signatures, chains of delegations, and spelling. A scheme gives these as functions.
+-- What the plain world leaves open: signatures, chains of delegations, and spelling. A scheme gives these as
+-- functions.
 use Rattle.std.specs.Prelude.{ℕ, Bool, List, Option}
 use Rattle.ds_label.specs.declared.category.PubKey.{PubKey}
 use Rattle.ds_label.specs.declared.category.Category.{Category}
@@ -8,7 +9,8 @@ use Rattle.ds_cert.specs.declared.lane.LaneCert.{LaneCert}
 use Rattle.ds_cert.specs.declared.cert.Cert.{Cert}
 use Rattle.ds_msg.specs.declared.message.Message.{Message}
 
--- a key that signs: the numbers of its LMS and LM-OTS types (RFC 8554, sections 5.1 and 4.1), its secret seed and its identifier
+-- a key that signs: the numbers of its LMS and LM-OTS types (RFC 8554, sections 5.1 and 4.1), its secret seed and its
+-- identifier
 pub record SigningKey : Type 0 where
   pub tree : ℕ
   pub chains : ℕ
@@ -34,20 +36,22 @@ pub record Failure : Type 0 where
   pub cause : ℕ
   pub place : ℕ
 
--- what each of these functions must give stands beside it; the concrete ones are defined with the crates of signatures, chains and formats
+-- what each of these functions must give stands beside it; the concrete ones are defined with the crates of
+-- signatures, chains and formats
 pub record Scheme : Type 0 where
   -- whether a certificate's signature is good under the key of the exporter that it names as its signer
   pub good : Delegation → Bool
   pub good_address : Address → Bool
   pub good_lane : LaneCert → Bool
-  -- whether the key acts for the category by these delegations, each valid at the moment and good, from the creator on
+  -- whether the key acts for the category by these delegations, each valid at the moment and good, from the creator
+  -- on
   pub holds : List Delegation → (moment : ℕ) → Category → PubKey → Bool
   -- the shortest such chain of delegations; empty for the creator, and where the key doesn't hold
   pub chain : List Delegation → (moment : ℕ) → Category → PubKey → List Delegation
   -- the first good address certificate of the exporter that is valid at the moment
   pub find : List Address → (moment : ℕ) → PubKey → Option Address
-  -- the delegation by an exporter, with the signature at this leaf of its key
-  pub delegation : SigningKey → (leaf : ℕ) → (by : PubKey) → Category → (to : PubKey) → (from until : ℕ) → Delegation
+  -- the signature, at this leaf of its key, of the delegation by an exporter
+  pub delegation_signature : SigningKey → (leaf : ℕ) → (by : PubKey) → Category → (to : PubKey) → (from until : ℕ) → List ℕ
   pub spelling : Delegation → List ℕ
   -- the delegation or address certificate that these bytes spell
   pub read_cert : List ℕ → Option Cert
@@ -57,8 +61,20 @@ pub record Scheme : Type 0 where
   -- the spelled hello of a lane, and a spelled frame with the signature at the leaf that is its number
   pub hello : LaneCert → List ℕ
   pub frame : LaneKey → (leaf : ℕ) → List Message → List ℕ
-  -- what a host with this key and these inlets reads of a stream, up to the first fault; and the fault, where the rest can't be read on
+  -- what a host with this key and these inlets reads of a stream, up to the first fault; and the fault, where the
+  -- rest can't be read on
   pub items : PubKey → List InletName → List ℕ → List Item
   pub ending : PubKey → List InletName → List ℕ → Option Failure
   -- whether a frame with this number and these messages stands in the stream, with a good signature under the key
   pub frame_signed : (key : PubKey) → (number : ℕ) → List Message → (stream : List ℕ) → Bool
+
+-- the delegation by an exporter, with the signature at this leaf of its key
+abbrev pub delegation_by : Scheme → SigningKey → (leaf : ℕ) → (by : PubKey) → Category → (to : PubKey) → (from until : ℕ) → Delegation
+delegation_by s signing leaf by c to from until = record {
+  category = c;
+  to = to;
+  from = from;
+  until = until;
+  by = by;
+  signature = s.delegation_signature signing leaf by c to from until;
+}

@@ -1,7 +1,8 @@
 use Rattle.ds_cert.specs.Good.{is_good_address}
 use Rattle.ds_cert.specs.NoDoubles.{same_address}
 use Rattle.ds_cert.specs.Ranges.{AddressRange}
-use Rattle.ds_chain.proofs.Stores.{IsStore-push, address_itself, known_push}
+use Rattle.ds_cert.proofs.Same.{address_itself}
+use Rattle.ds_chain.proofs.Stores.{IsStore-push, known_push}
 use Rattle.ds_chain.proofs.address_list.AddressList.keep.Goals as goal
 
 pub invariant_of-self : goal.invariant_of-self

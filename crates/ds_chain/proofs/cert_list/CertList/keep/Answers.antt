@@ -1,7 +1,8 @@
 use Rattle.ds_cert.specs.Good.{is_good_delegation}
 use Rattle.ds_cert.specs.NoDoubles.{same_delegation}
 use Rattle.ds_cert.specs.Ranges.{DelegationRange}
-use Rattle.ds_chain.proofs.Stores.{IsStore-push, delegation_itself, known_push}
+use Rattle.ds_cert.proofs.Same.{delegation_itself}
+use Rattle.ds_chain.proofs.Stores.{IsStore-push, known_push}
 use Rattle.ds_chain.proofs.cert_list.CertList.keep.Goals as goal
 
 pub invariant_of-self : goal.invariant_of-self
