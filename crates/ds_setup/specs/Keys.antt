@@ -1,5 +1,5 @@
 -- The keys of a document's hosts and lanes, as the model has them.
-use Rattle.std.specs.Prelude.{ℕ, suc, List, [], get_or, Option, Some, None}
+use Rattle.std.specs.Prelude.{ℕ, List, get_or, Option, Some, None}
 use Rattle.lms_sig.specs.declared.params.Params.{Params}
 use Rattle.lms_sig.specs.Keys.{Key as TreeKey, derived_seed, derived_id}
 use Rattle.lms_sig.specs.Merkle.{public_key}
@@ -28,7 +28,8 @@ signing_key h = signing_or_none (identity_key h)
 
 -- the key of a running host's lane with this number, which is made of its secret with that index
 abbrev pub lane_tree_of : Params → Secret → (number : ℕ) → Option TreeKey
-lane_tree_of lanekey (Seed secret) number = Some (record { params = lanekey; seed = derived_seed secret number; id = derived_id secret number })
+lane_tree_of lanekey (Seed secret) number =
+    Some (record { params = lanekey; seed = derived_seed secret number; id = derived_id secret number })
 lane_tree_of lanekey (Key key) number = None
 
 abbrev pub public_or_none : Option TreeKey → PubKey

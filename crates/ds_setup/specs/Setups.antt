@@ -1,6 +1,4 @@
 -- What setup sees to, of every document that was read.
-use Rattle.std.specs.Prelude.{◌≡◌, ℕ, ◌<◌, true, Bool, false, slice_get, Some}
-use Rattle.ds_model.specs.Plan.{host_plan, conn_plan}
 use Rattle.ds_model.specs.Setup.{IsSetup}
 use Rattle.ds_noninterference.specs.Premises.{Fits}
 use Rattle.ds_scheme.specs.TheScheme.{scheme}

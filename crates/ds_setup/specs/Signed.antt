@@ -1,14 +1,11 @@
--- What setup signs with a host's identity key, leaf by leaf: the host's address certificate, then its lanes' certificates by their
--- numbers, then the document's certificates by that host, in order.
+-- What setup signs with a host's identity key, leaf by leaf: the host's address certificate, then its lanes' certificates
+-- by their numbers, then the document's certificates by that host, in order.
 use Rattle.std.specs.Prelude.{ℕ, ◌+◌, ◌-◌, ◌==◌, List, [], ◌∷◌, ◌++◌, length, filter, slice_get, Option, Some, None, is_some}
-use Rattle.ds_label.specs.declared.category.Category.{Category}
-use Rattle.ds_cert.specs.declared.address.Address.{Address}
-use Rattle.ds_cert.specs.declared.delegation.Delegation.{Delegation}
 use Rattle.ds_cert.specs.declared.lane.LaneCert.{LaneCert}
 use Rattle.ds_cert.specs.declared.cert.Cert.{Cert}
-use Rattle.ds_cert.specs.declared.cert.Cert.TheVariants as certs
+use Rattle.ds_cert.specs.declared.cert.Cert.TheVariants.{Delegation}
 use Rattle.ds_cert.specs.Spelling.{signed_part_of_lane_cert}
-use Rattle.ds_model.specs.Scheme.{SigningKey}
+use Rattle.ds_model.specs.Scheme.{SigningKey, delegation_by}
 use Rattle.ds_model.specs.Plan.{no_signing}
 use Rattle.ds_scheme.specs.TheScheme.{scheme}
 use Rattle.ds_plan.specs.declared.host.HostSpec.{HostSpec}
@@ -39,21 +36,31 @@ unsigned_lane hosts h number lane = record {
   signature = [];
 }
 
+-- lanes are numbered from 1
+abbrev pub lane_leaf : HostSpec → (number : ℕ) → ℕ
+lane_leaf h number = address_leaves h + (number - 1)
+
+abbrev pub lane_signature : HostSpec → (number : ℕ) → LaneCert → List ℕ
+lane_signature h number lane = signature_by h.identity h.secret (lane_leaf h number) (signed_part_of_lane_cert lane)
+
 abbrev pub signed_lane : List HostSpec → HostSpec → (number : ℕ) → LaneSpec → LaneCert
-signed_lane hosts h number lane = record (unsigned_lane hosts h number lane) {
-  signature = signature_by h.identity h.secret (address_leaves h + (number - 1)) (signed_part_of_lane_cert (unsigned_lane hosts h number lane));
-}
+signed_lane hosts h number lane =
+    record (unsigned_lane hosts h number lane) { signature = lane_signature h number (unsigned_lane hosts h number lane) }
 
 -- THE DOCUMENT'S CERTIFICATES
 
 -- how many of these certificates a host signs
 abbrev pub signed_among : (host : ℕ) → List CertSpec → ℕ
-signed_among host certs = length (filter (λ by. by == host) (signers_of certs))
+signed_among host specs = length (filter (λ by. by == host) (signers_of specs))
 
--- the leaf at which a host signs the certificate behind these
-abbrev pub leaf_behind : Option HostSpec → (host : ℕ) → List CertSpec → ℕ
-leaf_behind None host before = 0
-leaf_behind (Some h) host before = address_leaves h + length h.lanes + signed_among host before
+-- the leaf behind a host's address, its lanes and these certificates
+abbrev pub leaf_behind : HostSpec → (host : ℕ) → List CertSpec → ℕ
+leaf_behind h host before = address_leaves h + length h.lanes + signed_among host before
+
+-- where a document has no such host, nothing signs
+abbrev pub leaf_in : Option HostSpec → (host : ℕ) → List CertSpec → ℕ
+leaf_in None host before = 0
+leaf_in (Some h) host before = leaf_behind h host before
 
 abbrev pub signing_in : Option HostSpec → SigningKey
 signing_in None = no_signing
@@ -66,18 +73,19 @@ pub record DocCert : Type 0 where
   pub by : Option ℕ
 
 -- the certificate behind these
-abbrev pub doc_cert : List HostSpec → List CertSpec → CertSpec → DocCert
+abbrev pub doc_cert : List HostSpec → (before : List CertSpec) → CertSpec → DocCert
 doc_cert hosts before (Made by category to from until at) = record {
-  cert = certs.Delegation (scheme.delegation (signing_in (slice_get hosts by)) (leaf_behind (slice_get hosts by) by before) (key_at hosts by) category (key_at hosts to) from until);
+  cert = Delegation (delegation_by scheme (signing_in (slice_get hosts by)) (leaf_in (slice_get hosts by) by before)
+      (key_at hosts by) category (key_at hosts to) from until);
   at = at;
   by = Some by;
 }
 doc_cert hosts before (Given cert at) = record { cert = cert; at = at; by = None }
 
-abbrev pub doc_certs_behind : List HostSpec → List CertSpec → List CertSpec → List DocCert
+abbrev pub doc_certs_behind : List HostSpec → (before : List CertSpec) → List CertSpec → List DocCert
 doc_certs_behind hosts before [] = []
 doc_certs_behind hosts before (c ∷ later) = doc_cert hosts before c ∷ doc_certs_behind hosts (before ++ c ∷ []) later
 
 -- all of them, in order
 abbrev pub doc_certs : List HostSpec → List CertSpec → List DocCert
-doc_certs hosts certs = doc_certs_behind hosts [] certs
+doc_certs hosts specs = doc_certs_behind hosts [] specs
