@@ -79,6 +79,22 @@ module _ (d : Doc) where
   pub is_host : (h : ℕ) (x : HostSpec) → slice_get d.hosts h ≡ Some x → IsHost (plan_of d) h
   is_host h x e = omega (arith, slice_get_within d.hosts h x e, length-each (host_setup_of d.hosts) d.hosts)
 
+  -- a claim of each connection, and of none
+  pub each_conn : (P : ConnPlan → Type 0)
+      → ((h l : ℕ) (x : HostSpec) (lane : LaneSpec) → slice_get d.hosts h ≡ Some x → slice_get x.lanes l ≡ Some lane → P (record { host = lane.to; source = OfLane h l }))
+      → ((host : ℕ) → P (record { host = host; source = Link })) → (k : ℕ) → P (conn_plan (plan_of d) k)
+  each_conn P lanes links k = go (slice_get (conn_plans_of d.hosts d.links) k) refl
+    where
+      every : Every P (conn_plans_of d.hosts d.links)
+      every = every_append P (joined (each lane_conns d.hosts)) (map (λ host. record { host = host; source = Link }) d.links)
+          (every_joined P (each lane_conns d.hosts) (every_each (Every P) lane_conns d.hosts
+          (λ h x e. every_each P (λ l (lane : LaneSpec). record { host = lane.to; source = OfLane h l }) x.lanes (λ l lane q. lanes h l x lane e q))))
+          (every_map P (λ host. record { host = host; source = Link }) d.links (λ i host e. links host))
+
+      go : (o : Option ConnPlan) → slice_get (conn_plans_of d.hosts d.links) k ≡ o → P (conn_plan (plan_of d) k)
+      go None e = subst P (sym (past (conn_plans_of d.hosts d.links) k no_wire e)) (links 0)
+      go (Some c) e = subst P (sym (get_or_from_slice_get (conn_plans_of d.hosts d.links) k c no_wire e)) (every k c e)
+
 module _ (d : Doc) (is : IsDocument d) where
   -- ---- certificates of lanes
 
@@ -112,7 +128,7 @@ module _ (d : Doc) (is : IsDocument d) where
         };
       })
 
-  spelled_lanes : HasSpelledLanes (plan_of d)
+  pub spelled_lanes : HasSpelledLanes (plan_of d)
   spelled_lanes h l there = lane_fits h l (lane_of d h l there)
 
   -- ---- connections
@@ -136,18 +152,8 @@ module _ (d : Doc) (is : IsDocument d) where
         subst (λ i. (host_plan (plan_of d) lane.to).key ≡ (lane_plan (host_plan (plan_of d) i) j).cert.receiver) same_host (subst (λ i. (host_plan (plan_of d) lane.to).key ≡ (lane_plan (host_plan (plan_of d) h) i).cert.receiver) same_lane key),
       )
 
-  all_ends : Every Ends (conn_plans_of d.hosts d.links)
-  all_ends = every_append Ends (joined (each lane_conns d.hosts)) (map (λ host. record { host = host; source = Link }) d.links)
-      (every_joined Ends (each lane_conns d.hosts) (every_each (Every Ends) lane_conns d.hosts
-      (λ h x e. every_each Ends (λ l (lane : LaneSpec). record { host = lane.to; source = OfLane h l }) x.lanes (λ l lane q. lane_end h l x lane e q))))
-      (every_map Ends (λ host. record { host = host; source = Link }) d.links (λ k host e h l source. absurd (link_source h l source)))
-
   ends : (k : ℕ) → Ends (conn_plan (plan_of d) k)
-  ends k = go (slice_get (conn_plans_of d.hosts d.links) k) refl
-    where
-      go : (o : Option ConnPlan) → slice_get (conn_plans_of d.hosts d.links) k ≡ o → Ends (conn_plan (plan_of d) k)
-      go None e = subst Ends (sym (past (conn_plans_of d.hosts d.links) k no_wire e)) (λ h l source. absurd (link_source h l source))
-      go (Some c) e = subst Ends (sym (get_or_from_slice_get (conn_plans_of d.hosts d.links) k c no_wire e)) (all_ends k c e)
+  ends = each_conn d Ends (λ h l x lane e q. lane_end h l x lane e q) (λ host h l source. absurd (link_source h l source))
 
   -- ---- exporter and number
 
