@@ -1,14 +1,14 @@
 -- What stands on a desk at the start.
-use Rattle.std.proofs.Common.{◌≡◌, ℕ, zero, suc, ◌+◌, ◌<◌, ◌≤◌, Bool, true, false, cond, List, [], ◌∷◌, ◌++◌, length, length-append, map, filter, Option, Some, None, slice_get, option_map, refl, sym, ◌∙◌, ap, subst, ◌⊎◌, inl, inr, arith, eqb, eqb-true}
+use Rattle.std.proofs.Common.{◌≡◌, ℕ, suc, ◌+◌, Bool, true, false, cond, List, [], ◌∷◌, ◌++◌, length, length-append, filter, Some, slice_get, option_map, refl, sym, ◌∙◌, ap, subst, arith, eqb, eqb-true}
 use Rattle.std.specs.List.{flat_map}
 use Rattle.std.proofs.lemmas.Bool.{cond-true, cond-false}
 use Rattle.std.proofs.lemmas.List.Concat.{flat_map-append}
 use Rattle.std.proofs.lemmas.List.Elements.{filter-append}
-use Rattle.std.proofs.lemmas.Option.{none-some, same_Some, slice_get-map}
+use Rattle.std.proofs.lemmas.Option.{same_Some}
 use Rattle.ds_cert.specs.declared.delegation.Delegation.{Delegation}
-use Rattle.ds_model.specs.Scheme.{SigningKey, delegation_by}
+use Rattle.ds_model.specs.Scheme.{delegation_by}
 use Rattle.ds_model.specs.Desk.{Desk}
-use Rattle.ds_model.specs.Plan.{HostPlan, IsHost, host_plan}
+use Rattle.ds_model.specs.Plan.{HostPlan}
 use Rattle.ds_model.specs.World.{Host}
 use Rattle.ds_model.specs.Views.{desk_at}
 use Rattle.ds_label.specs.declared.category.PubKey.{PubKey}
@@ -20,10 +20,9 @@ use Rattle.ds_plan.specs.declared.cert.CertSpec.{CertSpec}
 use Rattle.ds_plan.specs.declared.cert.CertSpec.TheVariants.{Made, Given}
 use Rattle.ds_plan.specs.Keys.{host_key}
 use Rattle.ds_plan.specs.Documents.{is_silent, signer_of, signers_of}
-use Rattle.ds_setup.specs.Lists.{each}
 use Rattle.ds_setup.specs.Keys.{key_at, signing_key}
-use Rattle.ds_setup.specs.Signed.{DocCert, address_leaves, signed_among, leaf_behind, leaf_in, signing_in, doc_cert, doc_certs_behind, doc_certs}
-use Rattle.ds_setup.specs.Plans.{plan_of, host_setup_of}
+use Rattle.ds_setup.specs.Signed.{DocCert, address_leaves, signed_among, leaf_behind, leaf_in, signing_in, doc_cert, doc_certs_behind}
+use Rattle.ds_setup.specs.Plans.{host_setup_of}
 use Rattle.ds_setup.specs.Starts.{start_of, start_host, start_desk, running_desk, empty_desk, issued_by, delegations_in, is_by}
 use Rattle.ds_setup.specs.Setups.{EachIssuesInOrder, SilentDesksAreEmpty, signed_from}
 use Rattle.ds_setup.proofs.Places.{each_at, inside, length-each}
@@ -62,31 +61,31 @@ module _ (hosts : List HostSpec) (host : ℕ) (h : HostSpec) (there : slice_get 
           → issues (before ++ Made by category to from until at ∷ []) later ≡ signed_from hosts host h (leaf_behind h host (before ++ Made by category to from until at ∷ [])) later
           → signed_among host (before ++ Made by category to from until at ∷ []) ≡ signed_among host before + length (cond (eqb by host) (by ∷ []) [])
           → flat_map (λ (c : DocCert). delegations_in c.cert) (cond (eqb by host)
-              (doc_cert hosts before (Made by category to from until at) ∷ filter (λ (c : DocCert). is_by host c.by) (doc_certs_behind hosts (before ++ Made by category to from until at ∷ []) later))
-              (filter (λ (c : DocCert). is_by host c.by) (doc_certs_behind hosts (before ++ Made by category to from until at ∷ []) later)))
+          (doc_cert hosts before (Made by category to from until at) ∷ filter (λ (c : DocCert). is_by host c.by) (doc_certs_behind hosts (before ++ Made by category to from until at ∷ []) later))
+          (filter (λ (c : DocCert). is_by host c.by) (doc_certs_behind hosts (before ++ Made by category to from until at ∷ []) later)))
           ≡ cond (eqb by host)
-              (delegation_by scheme (signing_key h) (leaf_behind h host before) (host_key h) category (key_at hosts to) from until ∷ signed_from hosts host h (suc (leaf_behind h host before)) later)
-              (signed_from hosts host h (leaf_behind h host before) later)
+          (delegation_by scheme (signing_key h) (leaf_behind h host before) (host_key h) category (key_at hosts to) from until ∷ signed_from hosts host h (suc (leaf_behind h host before)) later)
+          (signed_from hosts host h (leaf_behind h host before) later)
       go true is rest more =
           let one : signed_among host (before ++ Made by category to from until at ∷ []) ≡ signed_among host before + 1 = subst (λ b. signed_among host (before ++ Made by category to from until at ∷ []) ≡ signed_among host before + length (cond b (by ∷ []) [])) is more in
           let leaf : leaf_behind h host (before ++ Made by category to from until at ∷ []) ≡ suc (leaf_behind h host before) = omega (arith, one) in
           subst (λ b. flat_map (λ (c : DocCert). delegations_in c.cert) (cond b
-              (doc_cert hosts before (Made by category to from until at) ∷ filter (λ (c : DocCert). is_by host c.by) (doc_certs_behind hosts (before ++ Made by category to from until at ∷ []) later))
-              (filter (λ (c : DocCert). is_by host c.by) (doc_certs_behind hosts (before ++ Made by category to from until at ∷ []) later)))
+          (doc_cert hosts before (Made by category to from until at) ∷ filter (λ (c : DocCert). is_by host c.by) (doc_certs_behind hosts (before ++ Made by category to from until at ∷ []) later))
+          (filter (λ (c : DocCert). is_by host c.by) (doc_certs_behind hosts (before ++ Made by category to from until at ∷ []) later)))
           ≡ cond b
-              (delegation_by scheme (signing_key h) (leaf_behind h host before) (host_key h) category (key_at hosts to) from until ∷ signed_from hosts host h (suc (leaf_behind h host before)) later)
-              (signed_from hosts host h (leaf_behind h host before) later)) (sym is)
+          (delegation_by scheme (signing_key h) (leaf_behind h host before) (host_key h) category (key_at hosts to) from until ∷ signed_from hosts host h (suc (leaf_behind h host before)) later)
+          (signed_from hosts host h (leaf_behind h host before) later)) (sym is)
           (ap (λ (new : Delegation). new ∷ issues (before ++ Made by category to from until at ∷ []) later) (own by before category to from until (eqb-true by host is))
           ∙ ap (λ (rest : List Delegation). delegation_by scheme (signing_key h) (leaf_behind h host before) (host_key h) category (key_at hosts to) from until ∷ rest) (rest ∙ ap (λ leaf. signed_from hosts host h leaf later) leaf))
       go false is rest more =
           let none : signed_among host (before ++ Made by category to from until at ∷ []) ≡ signed_among host before + 0 = subst (λ b. signed_among host (before ++ Made by category to from until at ∷ []) ≡ signed_among host before + length (cond b (by ∷ []) [])) is more in
           let leaf : leaf_behind h host (before ++ Made by category to from until at ∷ []) ≡ leaf_behind h host before = omega (arith, none) in
           subst (λ b. flat_map (λ (c : DocCert). delegations_in c.cert) (cond b
-              (doc_cert hosts before (Made by category to from until at) ∷ filter (λ (c : DocCert). is_by host c.by) (doc_certs_behind hosts (before ++ Made by category to from until at ∷ []) later))
-              (filter (λ (c : DocCert). is_by host c.by) (doc_certs_behind hosts (before ++ Made by category to from until at ∷ []) later)))
+          (doc_cert hosts before (Made by category to from until at) ∷ filter (λ (c : DocCert). is_by host c.by) (doc_certs_behind hosts (before ++ Made by category to from until at ∷ []) later))
+          (filter (λ (c : DocCert). is_by host c.by) (doc_certs_behind hosts (before ++ Made by category to from until at ∷ []) later)))
           ≡ cond b
-              (delegation_by scheme (signing_key h) (leaf_behind h host before) (host_key h) category (key_at hosts to) from until ∷ signed_from hosts host h (suc (leaf_behind h host before)) later)
-              (signed_from hosts host h (leaf_behind h host before) later)) (sym is)
+          (delegation_by scheme (signing_key h) (leaf_behind h host before) (host_key h) category (key_at hosts to) from until ∷ signed_from hosts host h (suc (leaf_behind h host before)) later)
+          (signed_from hosts host h (leaf_behind h host before) later)) (sym is)
           (rest ∙ ap (λ leaf. signed_from hosts host h leaf later) leaf)
 
   -- how many they are

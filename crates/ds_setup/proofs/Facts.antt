@@ -1,9 +1,9 @@
 -- What a document that was read keeps, host by host.
-use Rattle.std.proofs.Common.{◌≡◌, ℕ, zero, suc, ◌+◌, ◌-◌, ◌*◌, ◌/◌, ◌%◌, ◌^◌, ◌<◌, ◌≤◌, Bool, true, false, List, [], ◌∷◌, ◌++◌, length, length-append, take, map, get_or, Option, Some, None, slice_get, option_map, refl, sym, ◌∙◌, ap, subst, ◌⊎◌, inl, inr, arith}
-use Rattle.std.specs.Prelude.{◌&&◌, ◌||◌, not, nat_le, nat_lt, nat_eq, is_some, cond, min}
+use Rattle.std.proofs.Common.{◌≡◌, ℕ, suc, ◌+◌, ◌/◌, ◌%◌, ◌^◌, ◌<◌, ◌≤◌, Bool, true, false, List, [], ◌∷◌, ◌++◌, length, length-append, map, Option, Some, None, slice_get, option_map, refl, sym, ◌∙◌, ap, subst, arith}
+use Rattle.std.specs.Prelude.{◌&&◌, ◌||◌, not, nat_le, nat_lt, is_some, cond, min}
 use Rattle.std.proofs.lemmas.List.{length-take}
-use Rattle.std.specs.List.{list_all, flat_map, AllByRecursion}
-use Rattle.std.proofs.lemmas.Bool.{and_parts, or_cases, ltb-true, leb-true, eqb-true, true_from_ne_false, not_from_true}
+use Rattle.std.specs.List.{list_all, AllByRecursion}
+use Rattle.std.proofs.lemmas.Bool.{and_parts, ltb-true, leb-true, eqb-true}
 use Rattle.std.proofs.lemmas.Option.{none-some, same_Some, slice_get-map, slice_get_within, get_or_from_slice_get}
 use Rattle.std.proofs.lemmas.Slice.Eq.{bytes_eq-Decides}
 use Rattle.lms_sig.specs.declared.params.Params.{Params}
@@ -21,10 +21,9 @@ use Rattle.ds_plan.specs.declared.host.LaneSpec.{LaneSpec}
 use Rattle.ds_plan.specs.declared.host.Secret.{Secret}
 use Rattle.ds_plan.specs.declared.host.Secret.TheVariants.{Seed, Key}
 use Rattle.ds_plan.specs.declared.maker.Maker.{Maker}
-use Rattle.ds_plan.specs.declared.maker.Maker.TheVariants.{Anything, Processes}
 use Rattle.ds_plan.specs.Keys.{key_of, host_key, host_keys, same_key}
-use Rattle.ds_plan.specs.Categories.{Origin, origin, place_of_key, is_known, is_in_range, has_maker, host_maker, is_place}
-use Rattle.ds_plan.specs.Documents.{IsDocument, IsLabel, HasLabels, has_secret_length, has_at_most, has_host_sizes, is_name, is_address_if_some, is_between, named_hosts, script_hosts, state_categories, lane_categories, script_categories, is_known_in, makers, is_silent, is_bare, is_bare_if_silent, host_has_leaves, signers_of, signatures}
+use Rattle.ds_plan.specs.Categories.{Origin, origin, place_of_key, is_in_range, has_maker, host_maker, is_place}
+use Rattle.ds_plan.specs.Documents.{IsDocument, IsLabel, HasLabels, has_secret_length, has_host_sizes, is_between, named_hosts, script_hosts, state_categories, lane_categories, script_categories, is_known_in, makers, is_silent, is_bare, is_bare_if_silent, host_has_leaves, signers_of, signatures}
 use Rattle.ds_setup.specs.Keys.{key_at}
 use Rattle.ds_setup.proofs.Places.{test_at, test_append, test_flat, all_at, place_at, inside, from_map}
 

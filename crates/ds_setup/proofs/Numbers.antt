@@ -1,16 +1,15 @@
 -- Connections by their numbers: the lanes of all hosts in order, and then the links.
-use Rattle.std.proofs.Common.{◌≡◌, ℕ, zero, suc, ◌+◌, ◌<◌, ◌≤◌, List, [], ◌∷◌, ◌++◌, length, length-append, take, map, get_or, sum, Option, Some, None, slice_get, option_map, refl, sym, ◌∙◌, ap, subst, ◌⊎◌, inl, inr, arith}
-use Rattle.std.proofs.lemmas.Bool.{cases_lt}
+use Rattle.std.proofs.Common.{◌≡◌, ℕ, zero, suc, ◌+◌, List, [], ◌∷◌, ◌++◌, length, length-append, take, map, sum, Option, Some, None, slice_get, option_map, refl, sym, ◌∙◌, ap, subst, ◌⊎◌, inl, inr, arith}
 use Rattle.std.proofs.lemmas.List.{length-map}
 use Rattle.std.proofs.lemmas.List.Sums.{sum_by-cons}
-use Rattle.std.proofs.lemmas.Option.{none-some, same_Some, slice_get-map, slice_get_within, get_or_from_slice_get}
-use Rattle.ds_model.specs.Plan.{ConnPlan, Plan, Source, Link, OfLane, IsLane, conn_plan, no_wire}
+use Rattle.std.proofs.lemmas.Option.{none-some, same_Some, slice_get-map, get_or_from_slice_get}
+use Rattle.ds_model.specs.Plan.{ConnPlan, Link, OfLane, conn_plan, no_wire}
 use Rattle.ds_plan.specs.declared.doc.Doc.{Doc}
 use Rattle.ds_plan.specs.declared.host.HostSpec.{HostSpec}
 use Rattle.ds_plan.specs.declared.host.LaneSpec.{LaneSpec}
 use Rattle.ds_plan.specs.Documents.{lane_counts}
 use Rattle.ds_setup.specs.Lists.{each, joined}
-use Rattle.ds_setup.specs.Plans.{plan_of, lane_conns, conn_plans_of}
+use Rattle.ds_setup.specs.Plans.{plan_of, lane_conns}
 use Rattle.ds_setup.specs.Setups.{ConnsAreInOrder, lanes_before}
 use Rattle.ds_setup.proofs.Places.{each_at, length-each, from_each, past}
 use Rattle.ds_setup.proofs.Setups.{LaneOf, lane_of}
@@ -153,5 +152,5 @@ module _ (d : Doc) where
     has = λ h l is. has h l (lane_of d h l is);
     one = one;
     links = links;
-    count = omega (arith, length-append lane_list link_list, many, length-map d.links (λ (host : ℕ). record { host = host; source = Link }));
+    count = omega (arith, length-append lane_list link_list, many, length-map {B = ConnPlan} d.links (λ (host : ℕ). record { host = host; source = Link }));
   }

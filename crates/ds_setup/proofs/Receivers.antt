@@ -1,14 +1,14 @@
 -- A running host to which a lane leads is the lane's receiver.
-use Rattle.std.proofs.Common.{◌≡◌, ℕ, zero, suc, ◌+◌, ◌-◌, ◌<◌, ◌≤◌, Bool, true, false, cond, List, [], ◌∷◌, ◌++◌, length, map, get_or, Option, Some, None, slice_get, option_map, refl, sym, ◌∙◌, ap, subst, ◌⊎◌, inl, inr, arith, eqb, eq-eqb}
-use Rattle.std.specs.Prelude.{◌&&◌, ◌||◌, not, nat_lt, is_some, position}
+use Rattle.std.proofs.Common.{◌≡◌, ℕ, zero, suc, ◌+◌, ◌<◌, Bool, true, false, cond, List, [], ◌∷◌, ◌++◌, length, map, Some, None, slice_get, option_map, refl, sym, ◌∙◌, ap, subst, arith, eqb, eq-eqb}
+use Rattle.std.specs.Prelude.{◌&&◌, ◌||◌, not, nat_lt, position}
 use Rattle.std.specs.List.{list_any, position_or_len}
-use Rattle.std.proofs.lemmas.Bool.{and_from, or_cases, or_left, or_right, lt-ltb, cond-true}
+use Rattle.std.proofs.lemmas.Bool.{and_from, or_left, or_right, lt-ltb, cond-true}
 use Rattle.std.proofs.lemmas.List.Folds.{list_any-append}
 use Rattle.std.proofs.lemmas.Option.{none-some, same_Some, slice_get-map, slice_get_within}
 use Rattle.std.proofs.lemmas.Slice.Eq.{bytes_eq-Decides}
 use Rattle.lms_sig.specs.declared.params.Params.{Params}
 use Rattle.lms_sig.specs.Keys.{Key as TreeKey, derived_seed, derived_id}
-use Rattle.lms_sig.specs.Merkle.{public_key, signature}
+use Rattle.lms_sig.specs.Merkle.{public_key}
 use Rattle.lms_sig.specs.Parameters.{leaf_count}
 use Rattle.lms_sig.proofs.Goods.{signature-good}
 use Rattle.ds_label.specs.declared.category.PubKey.{PubKey}
@@ -18,9 +18,8 @@ use Rattle.ds_frame.proofs.Goods.{test_from_good}
 use Rattle.ds_frame.specs.Checks.{is_good}
 use Rattle.ds_model.specs.Keys.{same_key}
 use Rattle.ds_model.specs.Scheme.{InletName}
-use Rattle.ds_model.specs.Plan.{HostPlan, LanePlan, ConnPlan, Plan, Source, Link, OfLane, all_keys, with_keys, host_plan, lane_plan, conn_plan, receiving_host}
-use Rattle.ds_model.specs.ConnectionStep.{inlet_of}
-use Rattle.ds_desk.specs.Signing.{signing_of, key_of as tree_of}
+use Rattle.ds_model.specs.Plan.{HostPlan, LanePlan, ConnPlan, Link, OfLane, all_keys, with_keys, host_plan, lane_plan, conn_plan}
+use Rattle.ds_desk.specs.Signing.{key_of as tree_of}
 use Rattle.ds_desk.proofs.Grows.{key_again}
 use Rattle.ds_scheme.specs.Receivers.{IsReceiver}
 use Rattle.ds_scheme.specs.TheScheme.{scheme}
@@ -31,10 +30,10 @@ use Rattle.ds_plan.specs.declared.host.Secret.{Secret}
 use Rattle.ds_plan.specs.declared.host.Secret.TheVariants.{Seed, Key}
 use Rattle.ds_plan.specs.Keys.{key_of, host_key}
 use Rattle.ds_plan.specs.Signed.{signature_by}
-use Rattle.ds_plan.specs.Documents.{IsDocument, is_silent, signers_of, signatures}
+use Rattle.ds_plan.specs.Documents.{IsDocument, is_silent}
 use Rattle.ds_setup.specs.Lists.{each, joined}
-use Rattle.ds_setup.specs.Keys.{key_at, lane_tree_of, public_or_none, signing_or_none}
-use Rattle.ds_setup.specs.Signed.{unsigned_lane, signed_lane, lane_leaf, address_leaves}
+use Rattle.ds_setup.specs.Keys.{lane_tree_of, public_or_none, signing_or_none}
+use Rattle.ds_setup.specs.Signed.{unsigned_lane, signed_lane, lane_leaf}
 use Rattle.ds_setup.specs.Plans.{plan_of, host_setup_of, lane_plan_of, inlets_of, inlets_from, lane_inlet, declared_inlet}
 use Rattle.ds_setup.specs.Setups.{EachLaneIsReceived}
 use Rattle.ds_setup.proofs.Places.{each_at}
@@ -112,9 +111,9 @@ module _ (d : Doc) (is : IsDocument d) where
       let test : InletName → Bool = counts (host_key x) (suc l) in
       let all : List InletName = joined (map (inlets_from lane.to) d.hosts) ++ map (declared_inlet d.hosts) to.inlets in
       let from : list_any test (inlets_from lane.to x) ≡ true =
-          any_joined test (each (lane_inlet lane.to x) x.lanes) l (lane_inlet lane.to x l lane) (each_at (lane_inlet lane.to x) x.lanes l ∙ ap (option_map (lane_inlet lane.to x l)) q) (own_inlet x l lane) in
+      any_joined test (each (lane_inlet lane.to x) x.lanes) l (lane_inlet lane.to x l lane) (each_at (lane_inlet lane.to x) x.lanes l ∙ ap (option_map (lane_inlet lane.to x l)) q) (own_inlet x l lane) in
       let lanes : list_any test (joined (map (inlets_from lane.to) d.hosts)) ≡ true =
-          any_joined test (map (inlets_from lane.to) d.hosts) h (inlets_from lane.to x) (slice_get-map (inlets_from lane.to) d.hosts h ∙ ap (option_map (inlets_from lane.to)) e) from in
+      any_joined test (map (inlets_from lane.to) d.hosts) h (inlets_from lane.to x) (slice_get-map (inlets_from lane.to) d.hosts h ∙ ap (option_map (inlets_from lane.to)) e) from in
       subst (λ (b : Bool). list_any test (cond b [] all) ≡ true) (sym runs) (any_front test (joined (map (inlets_from lane.to) d.hosts)) (map (declared_inlet d.hosts) to.inlets) lanes)
 
   -- ---- the receiver

@@ -1,14 +1,13 @@
 -- What setup makes of a document that was read fits what the theorems about runs ask.
-use Rattle.std.proofs.Common.{◌≡◌, ℕ, zero, suc, ◌+◌, ◌-◌, ◌^◌, ◌<◌, ◌≤◌, Bool, true, false, List, [], ◌∷◌, ◌++◌, length, map, get_or, Option, Some, None, slice_get, option_map, refl, sym, ◌∙◌, ap, ap₂, subst, arith}
-use Rattle.std.proofs.lemmas.Option.{none-some, same_Some, slice_get-map, slice_get_within, get_or_from_slice_get}
+use Rattle.std.proofs.Common.{◌≡◌, ℕ, suc, ◌<◌, ◌≤◌, true, false, List, [], ◌∷◌, length, map, Option, Some, None, slice_get, option_map, refl, sym, ◌∙◌, ap, ap₂, subst, arith}
+use Rattle.std.proofs.lemmas.Option.{slice_get-map, slice_get_within, get_or_from_slice_get}
 use Rattle.std.proofs.lemmas.Slice.Eq.{bytes_eq-Decides}
 use Rattle.lms_sig.specs.declared.params.Params.{Params}
-use Rattle.lms_sig.specs.Keys.{Key as TreeKey, derived_seed, derived_id}
-use Rattle.lms_sig.specs.Merkle.{signature}
+use Rattle.lms_sig.specs.Keys.{derived_seed, derived_id}
 use Rattle.ds_label.specs.declared.category.PubKey.{PubKey}
 use Rattle.ds_cert.specs.Ranges.{KeyFits, LaneCertFits}
 use Rattle.ds_cert.specs.Spelling.{signed_part_of_lane_cert}
-use Rattle.ds_model.specs.Plan.{HostSetup, LanePlan, ConnPlan, Plan, Source, Link, OfLane, IsHost, IsLane, all_keys, with_keys, host_plan, lane_plan, conn_plan, receiving_host, no_host, no_lane, no_wire}
+use Rattle.ds_model.specs.Plan.{HostSetup, LanePlan, ConnPlan, Link, OfLane, IsHost, IsLane, all_keys, with_keys, host_plan, lane_plan, conn_plan, no_host, no_lane, no_wire}
 use Rattle.ds_model.specs.World.{Process, Queue, Worker, Conn, Host}
 use Rattle.ds_model.specs.Setup.{IsSetup}
 use Rattle.ds_noninterference.specs.Premises.{Fits}
@@ -24,13 +23,13 @@ use Rattle.ds_plan.specs.Keys.{host_key, host_keys, same_key}
 use Rattle.ds_plan.specs.Signed.{signature_by}
 use Rattle.ds_plan.specs.Documents.{IsDocument, is_silent}
 use Rattle.ds_setup.specs.Lists.{each, joined}
-use Rattle.ds_setup.specs.Keys.{key_at, lane_public_key, lane_tree_of, public_or_none}
-use Rattle.ds_setup.specs.Signed.{unsigned_lane, signed_lane, lane_leaf}
+use Rattle.ds_setup.specs.Keys.{lane_tree_of, public_or_none}
+use Rattle.ds_setup.specs.Signed.{unsigned_lane, lane_leaf}
 use Rattle.ds_setup.specs.Plans.{plan_of, host_setup_of, lane_plan_of, lane_conns, conn_plans_of}
 use Rattle.ds_setup.specs.Starts.{start_of, start_host, process_of, worker_of, new_conn}
-use Rattle.ds_setup.specs.Setups.{SetupFits, EachSetupFits}
-use Rattle.ds_setup.proofs.Places.{each_at, length-each, each_there, each_past, from_each, from_map, past, inside, Every, every_append, every_joined, every_each, every_map, one_place}
-use Rattle.ds_setup.proofs.Facts.{Sizes, sizes_at, host_key_fits, key_there, leads, label_fits, has_seed, public_fits, id_length}
+use Rattle.ds_setup.specs.Setups.{SetupFits}
+use Rattle.ds_setup.proofs.Places.{length-each, each_there, each_past, from_each, past, inside, Every, every_append, every_joined, every_each, every_map, one_place}
+use Rattle.ds_setup.proofs.Facts.{sizes_at, host_key_fits, key_there, leads, label_fits, has_seed, public_fits, id_length}
 
 module _ (d : Doc) where
   -- ---- the plan by places
@@ -145,8 +144,7 @@ module _ (d : Doc) (is : IsDocument d) where
       let same_lane : l ≡ j = cc in
       let to = leads d is h l x lane e q in
       let key : (host_plan (plan_of d) lane.to).key ≡ (lane_plan (host_plan (plan_of d) h) l).cert.receiver =
-          ap (λ p. p.key) (plan_host d lane.to to.0 to.1) ∙ (sym (key_there d.hosts lane.to to.0 to.1) ∙ ap (λ (p : LanePlan). p.cert.receiver) (sym (plan_lane d h l x lane e q))) in
-      (
+      ap (λ p. p.key) (plan_host d lane.to to.0 to.1) ∙ (sym (key_there d.hosts lane.to to.0 to.1) ∙ ap (λ (p : LanePlan). p.cert.receiver) (sym (plan_lane d h l x lane e q))) in (
         subst (λ i. IsLane (plan_of d) i j) same_host (subst (λ i. IsLane (plan_of d) h i) same_lane (is_lane d h l x lane e q)),
         is_host d lane.to to.0 to.1,
         subst (λ i. (host_plan (plan_of d) lane.to).key ≡ (lane_plan (host_plan (plan_of d) i) j).cert.receiver) same_host (subst (λ i. (host_plan (plan_of d) lane.to).key ≡ (lane_plan (host_plan (plan_of d) h) i).cert.receiver) same_lane key),

@@ -57,7 +57,7 @@ signed_from hosts host h leaf [] = []
 signed_from hosts host h leaf (Made by category to from until at ∷ later) =
     if by == host
     then delegation_by scheme (signing_key h) leaf (host_key h) category (key_at hosts to) from until
-        ∷ signed_from hosts host h (suc leaf) later
+    ∷ signed_from hosts host h (suc leaf) later
     else signed_from hosts host h leaf later
 signed_from hosts host h leaf (Given cert at ∷ later) = signed_from hosts host h leaf later
 
