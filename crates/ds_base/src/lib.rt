@@ -25,8 +25,6 @@ mod mem_wire;
 mod read_source;
 mod sink;
 mod source;
-#[cfg(test)]
-mod tests;
 mod wire;
 mod write_sink;
 

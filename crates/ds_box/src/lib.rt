@@ -4,8 +4,6 @@
 mod copying;
 mod entry;
 mod state;
-#[cfg(test)]
-mod tests;
 
 pub use entry::{BoxAct, BoxEntry, BoxSegment};
 pub use state::{BoxState, Empty};

@@ -23,6 +23,3 @@ pub use label::{get_label, label_of, put_label};
 pub use lane::LaneCert;
 pub use laws::{reading_undoes_spelling, spellings_are_prefix_free};
 pub use writing::append_label;
-
-#[cfg(test)]
-mod tests;

@@ -9,9 +9,9 @@ mod cert_list;
 mod chain;
 mod delegated;
 mod distance;
-mod fault;
 mod edge;
 mod edge_list;
+mod fault;
 mod key_search;
 mod laws;
 mod numbers;
@@ -21,10 +21,7 @@ pub use address_list::AddressList;
 pub use cert_list::CertList;
 pub use chain::Chain;
 pub use delegated::{holds, search};
-pub use fault::{ADDRESS_LIMIT, CERT_LIMIT, ListFault};
 pub use edge::Edge;
 pub use edge_list::EdgeList;
+pub use fault::{ADDRESS_LIMIT, CERT_LIMIT, ListFault};
 pub use laws::{chain_laws, delegation_laws};
-
-#[cfg(test)]
-mod tests;

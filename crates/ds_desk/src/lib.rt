@@ -22,6 +22,3 @@ pub use issued::IssuedList;
 pub use laws::made_delegations_are_good;
 pub use opening::DeskOpening;
 pub use state::DeskState;
-
-#[cfg(test)]
-mod tests;

@@ -148,15 +148,23 @@ of_three w a b c = if same_text w (codes "join") then ops.Join (register a) (reg
 abbrev pub no_op : DraftOp
 no_op = ops.Print 0
 
+abbrev pub of_five : List (List ℕ) → Spot → Spot → Spot → Spot → Spot → DraftOp
+of_five names r category to from until = ops.Delegate (register r) (placed_category names category) (placed_host names to) (long from) (long until)
+
+abbrev pub of_six : List (List ℕ) → Spot → Spot → Spot → Spot → Spot → Spot → DraftOp
+of_six names to slot r label own clear =
+    ops.Send (placed_host names to) (word slot) (register r) (label_of names (items label)) (label_of names (items own)) (label_of names (items clear))
+
+-- by the count of arguments; the word tells operations with one count apart
 abbrev pub op_of : List (List ℕ) → List ℕ → List Spot → DraftOp
+op_of names w [] = no_op
 op_of names w (a ∷ []) = of_one names w a
 op_of names w (a ∷ b ∷ []) = of_two w a b
 op_of names w (a ∷ b ∷ c ∷ []) = of_three w a b c
-op_of names w (r ∷ category ∷ to ∷ from ∷ until ∷ []) =
-    ops.Delegate (register r) (placed_category names category) (placed_host names to) (long from) (long until)
-op_of names w (to ∷ slot ∷ r ∷ label ∷ own ∷ clear ∷ []) =
-    ops.Send (placed_host names to) (word slot) (register r) (label_of names (items label)) (label_of names (items own)) (label_of names (items clear))
-op_of names w _ = no_op
+op_of names w (a ∷ b ∷ c ∷ d ∷ []) = no_op
+op_of names w (r ∷ category ∷ to ∷ from ∷ until ∷ []) = of_five names r category to from until
+op_of names w (to ∷ slot ∷ r ∷ label ∷ own ∷ clear ∷ []) = of_six names to slot r label own clear
+op_of names w (a ∷ b ∷ c ∷ d ∷ e ∷ f ∷ g ∷ others) = no_op
 
 abbrev pub by_word : List (List ℕ) → List Spot → DraftOp
 by_word names [] = no_op

@@ -7,3 +7,4 @@ pub mod Names
 pub mod Draft
 pub mod Rules
 pub mod Values
+pub mod Reading

@@ -1,5 +1,5 @@
 -- Codes 6 to 11, and the address certificates for which a host has no room (5): each rule that a document breaks, and where.
-use Rattle.std.specs.Prelude.{ℕ, suc, ◌+◌, ◌-◌, List, [], ◌∷◌, ◌++◌, length, map, flat_map, slice_get, Bool, ◌&&◌, ◌||◌, not, nat_le, nat_lt, bytes_eq, ◌==◌, if◌then◌else◌, Option, Some, None, is_some, option_map}
+use Rattle.std.specs.Prelude.{ℕ, suc, ◌+◌, ◌-◌, List, [], ◌∷◌, ◌++◌, length, map, flat_map, slice_get, Bool, ◌&&◌, ◌||◌, not, nat_le, nat_lt, bytes_eq, ◌==◌, if◌then◌else◌, false, Option, Some, None, is_some, option_map}
 use Rattle.std.specs.List.{list_all, list_any}
 use Rattle.lms_sig.specs.declared.params.Params.{Params}
 use Rattle.ds_cert.specs.declared.cert.Cert.{Cert}

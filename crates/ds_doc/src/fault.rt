@@ -4,15 +4,18 @@ ghost use Rattle.std.specs.Prelude.{◌≡◌};
 ghost use Rattle.ds_doc.specs.Shapes.{lesser, least, unless};
 
 use std::alloc::{AllocError, AllocFailed};
+use thiserror::Error;
 
 /// Why a document wasn't read.
-#[derive(Clone, Copy, Debug, PartialEq, Eq)]
+#[derive(Clone, Copy, Debug, PartialEq, Eq, Error)]
 pub enum DocFault {
     /// It breaks a rule: the least code of a broken rule, from 1 to 11, and the least place where that rule is broken. The
     /// place of a value is the number of values before it in the document, objects and lists before what is in them, and
     /// members by the bytes of their names.
+    #[error("refused with code {0} at place {1}")]
     Refused(u8, u32),
     /// Memory ran out.
+    #[error("out of memory")]
     NoMemory,
 }
 
@@ -39,7 +42,7 @@ impl<T: Drop> From<AllocFailed<T>> for DocFault {
 }
 
 /// A rule that is broken at a place.
-#[derive(Clone, Copy, Debug, PartialEq, Eq)]
+#[derive(Clone, Copy)]
 pub(crate) struct Fault {
     /// The rule's code.
     pub(crate) code: u8,

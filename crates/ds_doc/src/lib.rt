@@ -3,6 +3,7 @@
 //! [`read`] gives the document, or the least code of a rule that it breaks and the least place where it does.
 #![tactic(auto)]
 
+mod document;
 mod draft;
 mod fault;
 mod form;
@@ -14,4 +15,5 @@ mod spot;
 mod text;
 mod values;
 
+pub use document::{read, read_keyed};
 pub use fault::DocFault;

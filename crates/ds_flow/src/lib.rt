@@ -11,6 +11,3 @@ mod shown;
 pub use attaching::attach;
 pub use fault::FlowFault;
 pub use judging::{judge_arrive, judge_box, judge_frame, judge_send};
-
-#[cfg(test)]
-mod tests;

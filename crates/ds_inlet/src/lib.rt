@@ -2,21 +2,18 @@
 #![tactic(auto)]
 
 mod conn;
-#[cfg(test)]
-mod conn_tests;
 mod entry;
 mod hosts;
 mod laws;
 mod names;
 mod offer;
 mod state;
-#[cfg(test)]
-mod tests;
 
 pub use conn::Conn;
 pub use entry::{InletAct, InletEntry, InletSegment};
 pub use laws::{
-    connections_accept_as_the_plain_world, connections_act_as_the_plain_world, connections_read_the_stream, pieces_make_no_difference,
+    connections_accept_as_the_plain_world, connections_act_as_the_plain_world,
+    connections_read_the_stream, pieces_make_no_difference,
 };
 pub use names::{InletName, InletNames};
 pub use offer::{ConnEntry, Offer};

@@ -15,6 +15,3 @@ pub use label::Label;
 pub use laws::{flow_is_membership, names_are_sets, numbers_are_sets};
 pub use local_label::LocalLabel;
 pub use rule::Rule;
-
-#[cfg(test)]
-mod tests;

@@ -3,6 +3,7 @@
 #![tactic(auto)]
 
 mod fault;
+mod labels;
 mod laws;
 mod number;
 mod table;
@@ -11,6 +12,3 @@ pub use fault::MapFault;
 pub use laws::{answers_are_the_same, labels_are_one_to_one, names_stay, numbers_are_one_to_one};
 pub use number::{ROW_LIMIT, home_number};
 pub use table::MapTable;
-
-#[cfg(test)]
-mod tests;

@@ -2,4 +2,5 @@
 pub mod OneHost
 pub mod Script
 pub mod TwoHosts
+pub mod Refusals
 pub mod Texts

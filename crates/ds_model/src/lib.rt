@@ -9,6 +9,7 @@ ghost use Rattle.ds_model.specs.Lawful.{SentLawfully};
 ghost use Rattle.ds_model.specs.Examples.OneHost.{Prints, IsRefused, IsReleased, IsScheduled, IsFull, IsStale};
 ghost use Rattle.ds_model.specs.Examples.Script.{IsScripted};
 ghost use Rattle.ds_model.specs.Examples.TwoHosts.{IsCarried};
+ghost use Rattle.ds_model.specs.Examples.Refusals.{CountsAlone, IsBusy, IsDropped, IsFirst, IsKeptIn, IsLapsed};
 ghost use Rattle.ds_model.specs.Examples.Texts.{IsPrinting, IsTrying, IsPosted};
 
 /// An event changes nothing in a world exactly where it changes none of its actor's numbers.
@@ -57,6 +58,19 @@ pub fn small_worlds()
     ensures stale { IsStale }
     ensures scripted { IsScripted }
     ensures carried { IsCarried }
+{}
+
+/// Small worlds of what must not happen, computed: of two rules that are broken the first in order is named; a process that
+/// doesn't own the secret of its label does nothing in public; a message whose label doesn't flow to its mailbox's is dropped
+/// on arrival; a connection with work in hand takes nothing; a message whose receiver's address lapsed on the lane is dropped
+/// at framing, and is nowhere; and two lanes of a host each begin at their own first leaf.
+pub fn small_refusals()
+    ensures first { IsFirst }
+    ensures kept_in { IsKeptIn }
+    ensures dropped { IsDropped }
+    ensures busy { IsBusy }
+    ensures lapsed { IsLapsed }
+    ensures alone { CountsAlone }
 {}
 
 /// The texts of three of the small worlds.

@@ -8,6 +8,3 @@ mod monitor;
 
 pub use fault::ProcFault;
 pub use monitor::Monitor;
-
-#[cfg(test)]
-mod tests;

@@ -12,6 +12,3 @@ pub use certs::CertBytes;
 pub use laws::{messages_are_short, reading_undoes_spelling, spellings_are_prefix_free};
 pub use local::LocalMessage;
 pub use message::Message;
-
-#[cfg(test)]
-mod tests;

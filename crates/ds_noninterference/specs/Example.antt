@@ -9,8 +9,8 @@ use Rattle.ds_model.specs.Plan.{HostSetup, BoxPlan, Plan, no_signing}
 use Rattle.ds_model.specs.World.{Process, World}
 use Rattle.ds_model.specs.Step.{Event, Step, run}
 use Rattle.ds_model.specs.Views.{proc_at}
-use Rattle.ds_model.specs.Examples.OneHost.{empty_scheme, only_key, a_secret, a_mail}
-use Rattle.ds_noninterference.specs.Observations.{Release, ToBox, Low, marks}
+use Rattle.ds_model.specs.Examples.OneHost.{one_host, one_process, empty_scheme, only_key, a_secret, a_mail}
+use Rattle.ds_noninterference.specs.Observations.{Release, ToBox, Low, marks, High, mark}
 use Rattle.ds_noninterference.specs.Premises.{IsScheme}
 use Rattle.ds_noninterference.specs.Law.{Premises}
 
@@ -72,6 +72,10 @@ PremisesHold = IsScheme empty_scheme pair × Premises empty_scheme a_secret (0 �
 -- the marks of both runs: the release, and the steps of the second process
 abbrev pub IsMarked : Type 0
 IsMarked = marks empty_scheme a_secret (0 ∷ []) pair (pair_world first_script) first_events ≡ Release 0 0 (ToBox 0 a_mail) ∷ Low (Step 0 1) ∷ Low (Step 0 1) ∷ []
+
+-- a step of an owner of the secret is high, also where its label hasn't the secret
+abbrev pub IsOwnerHigh : Type 0
+IsOwnerHigh = mark a_secret (0 ∷ []) one_host (one_process first_script [] (a_secret ∷ [])) (Step 0 0) ≡ High
 
 -- what a process has noted at the end
 abbrev pub notes_in : List Op → List Event → (proc : ℕ) → Option (List Note)

@@ -4,7 +4,7 @@
 
 ghost use Rattle.ds_noninterference.specs.Alike.{AlikeWorlds};
 ghost use Rattle.ds_noninterference.specs.Law.{AtEnd, SameProcesses, SameHosts, SameDesks, SameArrivals, SameSections};
-ghost use Rattle.ds_noninterference.specs.Example.{PremisesHold, IsMarked, IsPrinted};
+ghost use Rattle.ds_noninterference.specs.Example.{PremisesHold, IsMarked, IsOwnerHigh, IsPrinted};
 ghost use Rattle.ds_noninterference.specs.Owners.{OnlyOwnersAct, OnlyOwnersRelease};
 ghost use Rattle.ds_noninterference.specs.Network.{IsNetMet, IsNetMarked, IsNetSeen};
 
@@ -26,6 +26,8 @@ pub fn two_runs()
 pub fn an_example()
     ensures met { PremisesHold }
     ensures marked { IsMarked }
+    // An owner of the secret is high, whatever its label.
+    ensures owner { IsOwnerHigh }
     ensures printed { IsPrinted }
 {}
 

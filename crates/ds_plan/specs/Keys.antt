@@ -17,7 +17,7 @@ abbrev pub identity_key : HostSpec → Option SigningKey
 identity_key h = identity_of h.identity h.secret
 
 -- a running host's key is made of its secret, with index 0; a silent host's is given
-unfoldable pub key_of : Params → Secret → PubKey
+abbrev pub key_of : Params → Secret → PubKey
 key_of identity (Seed secret) = record { 0 = public_key identity (derived_seed secret 0) (derived_id secret 0) }
 key_of identity (Key key) = key
 

@@ -10,7 +10,7 @@ use Rattle.ds_plan.specs.declared.host.Secret.TheVariants.{Seed, Key}
 use Rattle.ds_plan.specs.Keys.{key_of}
 
 -- a signature by a host's identity key, at a leaf; a silent host signs nothing
-unfoldable pub signature_by : Params → Secret → ℕ → List ℕ → List ℕ
+abbrev pub signature_by : Params → Secret → ℕ → List ℕ → List ℕ
 signature_by identity (Seed secret) leaf message = signature identity (derived_seed secret 0) (derived_id secret 0) leaf message
 signature_by identity (Key key) leaf message = []
 
@@ -18,7 +18,7 @@ abbrev pub unsigned_address : Params → Secret → List ℕ → Address
 unsigned_address identity secret address = record { exporter = key_of identity secret; address = address; from = 0; until = 2 ^ 64 - 1; signature = [] }
 
 -- a host's own address certificate: signed at leaf 0, valid at each moment but the last
-unfoldable pub signed_address : Params → Secret → List ℕ → Address
+abbrev pub signed_address : Params → Secret → List ℕ → Address
 signed_address identity secret address =
     let part : Address = unsigned_address identity secret address in
     record part { signature = signature_by identity secret 0 (signed_part_of_address part) }

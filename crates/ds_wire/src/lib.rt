@@ -15,6 +15,3 @@ pub use bytes::Bytes;
 pub use laws::{read_again, spelled_so};
 pub use reading::{Short, get_bytes, get_u8, get_u16, get_u32, get_u64};
 pub use writing::{put_u8, put_u16, put_u32, put_u64};
-
-#[cfg(test)]
-mod tests;

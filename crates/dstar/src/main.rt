@@ -2,8 +2,6 @@
 #![tactic(auto)]
 
 mod call;
-#[cfg(test)]
-mod command_tests;
 mod document;
 mod input;
 mod mailbox;

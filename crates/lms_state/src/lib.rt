@@ -4,8 +4,6 @@
 mod fault;
 mod law;
 mod signer;
-#[cfg(test)]
-mod tests;
 
 pub use fault::SignFault;
 pub use law::no_leaf_twice;

@@ -9,7 +9,7 @@ ghost use Rattle.ds_doc.specs.Seen.{seen};
 
 use crate::draft::{Categories, CategoryName, HostName, HostNames, Placed};
 use crate::spot::Spot;
-use crate::text::{category_of, is_word, register_of, kind_of};
+use crate::text::{category_of, is_word, kind_of, register_of};
 use ds_label::Kind;
 use ds_plan::PartList;
 use ds_wire::Bytes;
@@ -56,7 +56,9 @@ pub(crate) fn nearest_at(spot: &Spot, name: &str, default: u32, low: u32, high: 
     requires { low ≤ high }
     ensures { result ≡ drafts.nearest_at name.now default low high (seen spot.now) }
 {
-    spot.member_number(name, u64::from(default)).min(u64::from(high)).max(u64::from(low)) as u32
+    spot.member_number(name, u64::from(default))
+        .min(u64::from(high))
+        .max(u64::from(low)) as u32
 }
 
 /// A number of 64 bits.

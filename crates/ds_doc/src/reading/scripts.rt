@@ -61,23 +61,54 @@ fn op_of(
         [first] => of_one(alloc, names, name, first),
         [first, second] => of_two(alloc, name, first, second),
         [first, second, third] => Ok(of_three(name, first, second, third)),
-        [reg, category, to, from, until] => Ok(DraftOp::Delegate {
-            reg: register(reg),
-            category: placed_category(alloc, names, category)?,
-            to: placed_host(alloc, names, to)?,
-            from: long(from),
-            until: long(until),
-        }),
-        [host, slot, reg, label, own, clear] => Ok(DraftOp::Send {
-            host: placed_host(alloc, names, host)?,
-            slot: word(slot),
-            reg: register(reg),
-            label: label_of(alloc, names, label)?,
-            own: label_of(alloc, names, own)?,
-            clear: label_of(alloc, names, clear)?,
-        }),
-        _ => Ok(DraftOp::Print { reg: 0 }),
+        [reg, category, to, from, until] => of_five(alloc, names, reg, category, to, from, until),
+        [host, slot, reg, label, own, clear] => of_six(
+            alloc, names, host, slot, reg, label, own, clear,
+        ),
+        [] | [_, _, _, _] | [_, _, _, _, _, _, _, ..] => Ok(DraftOp::Print { reg: 0 }),
     }
+}
+
+fn of_five(
+    alloc: Global,
+    names: &Names,
+    reg: &Spot,
+    category: &Spot,
+    to: &Spot,
+    from: &Spot,
+    until: &Spot,
+) -> Result<DraftOp, AllocError>
+    ensures { IfOk result (λ o. o ≡ drafts.of_five names.now (seen reg.now) (seen category.now) (seen to.now) (seen from.now) (seen until.now)) }
+{
+    Ok(DraftOp::Delegate {
+        reg: register(reg),
+        category: placed_category(alloc, names, category)?,
+        to: placed_host(alloc, names, to)?,
+        from: long(from),
+        until: long(until),
+    })
+}
+
+fn of_six(
+    alloc: Global,
+    names: &Names,
+    host: &Spot,
+    slot: &Spot,
+    reg: &Spot,
+    label: &Spot,
+    own: &Spot,
+    clear: &Spot,
+) -> Result<DraftOp, AllocError>
+    ensures { IfOk result (λ o. o ≡ drafts.of_six names.now (seen host.now) (seen slot.now) (seen reg.now) (seen label.now) (seen own.now) (seen clear.now)) }
+{
+    Ok(DraftOp::Send {
+        host: placed_host(alloc, names, host)?,
+        slot: word(slot),
+        reg: register(reg),
+        label: label_of(alloc, names, label)?,
+        own: label_of(alloc, names, own)?,
+        clear: label_of(alloc, names, clear)?,
+    })
 }
 
 fn of_one(alloc: Global, names: &Names, name: &[u8], first: &Spot) -> Result<DraftOp, AllocError>

@@ -1,6 +1,7 @@
 //! Address certificates for which a host has no room.
 
-ghost use Rattle.std.specs.Prelude.{◌≡◌, ◌++◌, [], ◌∷◌, true, ◌≤◌, map, flat_map, length, bytes_eq, OnOk, IfOk};
+ghost use Rattle.std.specs.Prelude.{◌≡◌, ◌++◌, [], ◌∷◌, true, ◌≤◌, ◌-◌, ◌^◌, map, flat_map, length, bytes_eq, OnOk, IfOk};
+ghost use Rattle.lms_sig.specs.Merkle.{signature};
 ghost use Rattle.ds_cert.specs.Spelling.{spelling_of_address};
 ghost use Rattle.ds_plan.specs.Documents as documents;
 ghost use Rattle.ds_plan.specs.Documents.{stood};
@@ -21,7 +22,7 @@ use ds_cert::{Address, Cert};
 use ds_label::PubKey;
 use ds_plan::{PartList, PlaceList, Secret};
 use ds_wire::Bytes;
-use lms_sig::Params;
+use lms_sig::{Params, TreeKey};
 use std::alloc::{AllocError, Global};
 
 /// Most different address certificates of a host.
@@ -83,10 +84,7 @@ fn push_given(
 }
 
 /// The address certificates in hex.
-pub(crate) fn given_of(
-    alloc: Global,
-    certs: &[DraftCert],
-) -> Result<PartList<GivenAt>, AllocError>
+pub(crate) fn given_of(alloc: Global, certs: &[DraftCert]) -> Result<PartList<GivenAt>, AllocError>
     ensures { IfOk result (λ l. l ≡ flat_map of_rules.given_in certs.now) }
 {
     let mut given = PartList::new(alloc);
@@ -96,7 +94,38 @@ pub(crate) fn given_of(
     Ok(given)
 }
 
+/// An own address certificate without its signature.
+fn unsigned(alloc: Global, exporter: PubKey, address: &Bytes) -> Result<Address, AllocError>
+    ensures { IfOk result (λ a. a ≡ record { exporter = exporter; address = address.now; from = 0; until = 2 ^ 64 - 1; signature = [] }) }
+{
+    Ok(Address {
+        exporter,
+        address: address.copy()?,
+        from: 0,
+        until: u64::MAX,
+        signature: Bytes::new(alloc),
+    })
+}
+
+/// The signature at leaf 0.
+#[tactic(auto, using(crate::proofs::Heads::short_signature))]
+fn first_signature(key: &TreeKey, message: &Bytes) -> Result<Bytes, AllocError>
+    ensures value { IfOk result (λ b. b ≡ signature key.now.params key.now.seed key.now.id 0 message.now) }
+    ensures short { IfOk result (λ b. length b ≤ 2508) }
+{
+    Ok(Bytes::from_vec(key.sign_at(0, message.as_slice())?))
+}
+
+fn with_signature(part: Address, signature: Bytes) -> Address
+    ensures { result ≡ record part { signature = signature } }
+{
+    let mut whole = part;
+    whole.signature = signature;
+    whole
+}
+
 /// The bytes of the own address certificate of a running host.
+#[tactic(auto, using(crate::proofs::Heads::whole_in_range))]
 fn signed(
     alloc: Global,
     identity: Params,
@@ -107,22 +136,18 @@ fn signed(
     ensures { IfOk result (λ b. b ≡ spelling_of_address (signed_address identity (Seed secret.now) address.now)) }
 {
     let key = tree_of(alloc, identity, secret)?;
-    let mut cert = Address {
-        exporter: PubKey(key.public()),
-        address: address.copy()?,
-        from: 0,
-        until: u64::MAX,
-        signature: Bytes::new(alloc),
-    };
-    let part = cert.signed_part()?;
-    cert.signature = Bytes::from_vec(key.sign_at(0, part.as_slice())?);
-    cert.encode()
+    let part = unsigned(alloc, PubKey(key.public()), address)?;
+    let message = part.signed_part()?;
+    let signature = first_signature(&key, &message)?;
+    spelling(&with_signature(part, signature))
 }
 
 fn has_bytes(before: &[Bytes], bytes: &Bytes) -> bool
     ensures { result ≡ stood bytes_eq before.now bytes.now }
 {
-    before.iter().any(|other| other.as_slice() == bytes.as_slice())
+    before
+        .iter()
+        .any(|other| other.as_slice() == bytes.as_slice())
 }
 
 /// Appends bytes, unless they are there.

@@ -30,7 +30,12 @@ fn signer_rule(
 ) -> Result<(), AllocError>
     ensures { OnOk result (faults.new.items ≡ faults.old.items ++ of_rules.silent_signer facts.now by.now) }
 {
-    note(faults, runs(facts.makers.get(by.value.number() as usize)), 11, by.at)
+    note(
+        faults,
+        runs(facts.makers.get(by.value.number() as usize)),
+        11,
+        by.at,
+    )
 }
 
 #[tactic(auto, unfolding(crate::specs::Rules::cert_rules))]

@@ -79,7 +79,8 @@ fn event_rule(faults: &mut Vec<Fault>, facts: &Facts, event: &DraftEvent) -> Res
         DraftEvent::Frame { host, lane } => {
             host_rule(faults, facts, host)?;
             let place = host.value.number() as usize;
-            let fine = runs(facts.makers.get(place)) && has_lane(facts.lanes.get(place), lane.value);
+            let fine = runs(facts.makers.get(place))
+                && has_lane(facts.lanes.get(place), lane.value);
             note(faults, fine, 7, lane.at)
         }
         DraftEvent::Arrive { conn, .. }

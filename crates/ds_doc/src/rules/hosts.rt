@@ -28,7 +28,12 @@ fn proc_rules(
     state_rules(faults, facts, here, rows, &process.label)?;
     state_rules(faults, facts, here, rows, &process.own)?;
     state_rules(faults, facts, here, rows, &process.clear)?;
-    script_rules(faults, facts, process.script.len(), process.script.as_slice())
+    script_rules(
+        faults,
+        facts,
+        process.script.len(),
+        process.script.as_slice(),
+    )
 }
 
 fn procs_rules(
@@ -57,7 +62,12 @@ fn box_rules(
 ) -> Result<(), AllocError>
     ensures { OnOk result (faults.new.items ≡ faults.old.items ++ of_rules.box_rules facts.now here rows.now procs mailbox.now) }
 {
-    note(faults, (mailbox.owner.value as usize) < procs, 7, mailbox.owner.at)?;
+    note(
+        faults,
+        (mailbox.owner.value as usize) < procs,
+        7,
+        mailbox.owner.at,
+    )?;
     state_rules(faults, facts, here, rows, &mailbox.label)
 }
 
@@ -182,7 +192,14 @@ pub(crate) fn host_rules(
     let procs = items_of(&host.procs);
     row_rules(faults, facts, here, rows)?;
     procs_rules(faults, facts, here, rows, procs)?;
-    boxes_rules(faults, facts, here, rows, procs.len(), items_of(&host.boxes))?;
+    boxes_rules(
+        faults,
+        facts,
+        here,
+        rows,
+        procs.len(),
+        items_of(&host.boxes),
+    )?;
     lanes_rules(faults, facts, items_of(&host.lanes))?;
     inlets_rules(faults, facts, items_of(&host.inlets))?;
     note(faults, has_leaves(facts, here, host), 10, host.at)?;

@@ -27,7 +27,12 @@ pub(crate) fn host_rule(
 ) -> Result<(), AllocError>
     ensures { OnOk result (faults.new.items ≡ faults.old.items ++ of_rules.unknown_host facts.now name.now) }
 {
-    note(faults, (name.value.number() as usize) < facts.makers.len(), 7, name.at)
+    note(
+        faults,
+        (name.value.number() as usize) < facts.makers.len(),
+        7,
+        name.at,
+    )
 }
 
 pub(crate) fn host_rules(
@@ -73,7 +78,10 @@ fn made_by(maker: Option<&Maker>, category: &CategoryName) -> bool
     ensures { result ≡ categories.made_by (origin_of category.now) (option_copied maker.entry) }
 {
     match maker {
-        Some(Maker::Processes(made)) => is_below(category.number, made.get(category.process as usize)),
+        Some(Maker::Processes(made)) => is_below(
+            category.number,
+            made.get(category.process as usize),
+        ),
         _ => true,
     }
 }
@@ -121,7 +129,12 @@ fn row_rule(
     ensures { OnOk result (faults.new.items ≡ faults.old.items ++ of_rules.row_rules facts.now here category.now) }
 {
     category_rule(faults, facts, category)?;
-    note(faults, category.value.host.number() as usize != here, 9, category.at)
+    note(
+        faults,
+        category.value.host.number() as usize != here,
+        9,
+        category.at,
+    )
 }
 
 pub(crate) fn row_rules(

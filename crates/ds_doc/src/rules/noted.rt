@@ -7,12 +7,7 @@ use crate::fault::{Fault, lesser};
 use std::alloc::AllocError;
 
 /// Appends the fault, unless all is well there.
-pub(crate) fn note(
-    faults: &mut Vec<Fault>,
-    fine: bool,
-    code: u8,
-    at: u32,
-) -> Result<(), AllocError>
+pub(crate) fn note(faults: &mut Vec<Fault>, fine: bool, code: u8, at: u32) -> Result<(), AllocError>
     ensures { OnOk result (faults.new.items ≡ faults.old.items ++ unless fine code at) }
 {
     if !fine {

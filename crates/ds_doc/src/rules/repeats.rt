@@ -8,9 +8,7 @@ ghost use Rattle.ds_doc.specs.Draft as drafts;
 ghost use Rattle.ds_doc.specs.Names.{or_empty};
 ghost use Rattle.ds_doc.specs.Rules as of_rules;
 
-use crate::draft::{
-    CategoryName, DraftBox, DraftHost, DraftInlet, DraftLane, Placed, items_of,
-};
+use crate::draft::{CategoryName, DraftBox, DraftHost, DraftInlet, DraftLane, Placed, items_of};
 use crate::fault::Fault;
 use crate::reading::has_category;
 use crate::rules::facts::Facts;
@@ -35,14 +33,21 @@ pub(crate) fn names(faults: &mut Vec<Fault>, hosts: &[DraftHost]) -> Result<(), 
 fn has_slot(before: &[DraftBox], mailbox: &DraftBox) -> bool
     ensures { result ≡ stood of_rules.same_slot before.now mailbox.now }
 {
-    before.iter().any(|other| other.slot.value == mailbox.slot.value)
+    before
+        .iter()
+        .any(|other| other.slot.value == mailbox.slot.value)
 }
 
 fn slots(faults: &mut Vec<Fault>, boxes: &[DraftBox]) -> Result<(), AllocError>
     ensures { OnOk result (faults.new.items ≡ faults.old.items ++ of_rules.repeats of_rules.same_slot of_rules.slot_place [] boxes.now) }
 {
     for (place, mailbox) in boxes.iter().enumerate() {
-        note(faults, !has_slot(&boxes[..place], mailbox), 6, mailbox.slot.at)?;
+        note(
+            faults,
+            !has_slot(&boxes[..place], mailbox),
+            6,
+            mailbox.slot.at,
+        )?;
     }
     Ok(())
 }

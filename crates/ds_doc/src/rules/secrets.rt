@@ -36,6 +36,7 @@ fn ots_number(ots: OtsType) -> u32
 }
 
 /// The types and the identifier of a running host's key, the first 24 bytes of it.
+#[tactic(auto, using(crate::proofs::Heads::running))]
 fn running_head(alloc: Global, identity: Params, secret: &[u8; 32]) -> Result<Bytes, AllocError>
     ensures { IfOk result (λ b. b ≡ take 24 (public_key identity (derived_seed secret.now 0) (derived_id secret.now 0))) }
 {
@@ -48,7 +49,6 @@ fn running_head(alloc: Global, identity: Params, secret: &[u8; 32]) -> Result<By
 }
 
 /// The first 24 bytes of a host's key, which take no tree.
-#[tactic(auto, unfolding(Rattle.ds_plan.specs.Keys.key_of))]
 fn head_of(alloc: Global, host: &DraftHost) -> Result<Bytes, AllocError>
     ensures { IfOk result (λ b. b ≡ take 24 (keys.key_of host.now.identity host.now.secret.value).0) }
 {
@@ -71,7 +71,6 @@ pub(crate) fn tree_of(
 }
 
 /// A host's key. That of a running host takes a tree.
-#[tactic(auto, unfolding(Rattle.ds_plan.specs.Keys.key_of))]
 fn key_of(alloc: Global, host: &DraftHost) -> Result<PubKey, AllocError>
     ensures { IfOk result (λ k. k ≡ keys.key_of host.now.identity host.now.secret.value) }
 {

@@ -98,7 +98,7 @@ pub(crate) fn least_broken(alloc: Global, draft: &Draft) -> Result<Option<Fault>
 }
 
 /// The first address certificate for which a host has no room. Keys are made only where there could be one.
-#[tactic(auto, unfolding(crate::specs::Rules::over_full))]
+#[tactic(auto, using(crate::proofs::Rooms::room_enough), unfolding(crate::specs::Rules::over_full))]
 pub(crate) fn least_over_full(alloc: Global, draft: &Draft) -> Result<Option<Fault>, AllocError>
     ensures { IfOk result (λ f. f ≡ least (of_rules.over_full draft.now)) }
 {
@@ -108,6 +108,12 @@ pub(crate) fn least_over_full(alloc: Global, draft: &Draft) -> Result<Option<Fau
     }
     let made = made_of(alloc, draft.hosts.as_slice())?;
     let mut faults = Vec::new(alloc);
-    no_room_in_each(alloc, &mut faults, made.as_slice(), given.as_slice(), draft.hosts.as_slice())?;
+    no_room_in_each(
+        alloc,
+        &mut faults,
+        made.as_slice(),
+        given.as_slice(),
+        draft.hosts.as_slice(),
+    )?;
     Ok(least_of(faults.as_slice()))
 }

@@ -25,10 +25,12 @@ fn key_or(key: Option<&PubKey>) -> PubKey
 fn category(keys: &Keys, name: &CategoryName) -> Category
     ensures { result ≡ values.category keys.now name.now }
 {
+    let process = name.process;
+    let number = name.number;
     Category {
         creator: key_or(keys.get(name.host.number() as usize)),
         kind: name.kind,
-        number: u64::from(name.process) * 4_294_967_296 + u64::from(name.number),
+        number: u64::from(process) * 4_294_967_296 + u64::from(number),
     }
 }
 

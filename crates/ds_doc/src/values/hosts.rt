@@ -7,9 +7,9 @@ use crate::draft::{
     DraftBox, DraftHost, DraftInlet, DraftLane, DraftOp, DraftProc, Placed, items_of,
 };
 use crate::values::categories::{Keys, category_of, label_of, rows_of};
-use ds_plan::{HostSpecList,
-    BoxSpec, BoxSpecList, HostSpec, InletSpec, InletSpecList, LaneSpec, LaneSpecList, ProcSpec,
-    ProcSpecList,
+use ds_plan::{
+    BoxSpec, BoxSpecList, HostSpec, HostSpecList, InletSpec, InletSpecList, LaneSpec, LaneSpecList,
+    ProcSpec, ProcSpecList,
 };
 use ds_script::{Op, OpList};
 use ds_wire::Bytes;

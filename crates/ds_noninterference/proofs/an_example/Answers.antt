@@ -9,6 +9,9 @@ pub returns-clause-marked : goal.returns-clause-marked
 unfolding Rattle.ds_label.specs.Flow.flows Rattle.ds_label.specs.Flow.union
 returns-clause-marked c = refl
 
+pub returns-clause-owner : goal.returns-clause-owner
+returns-clause-owner c = refl
+
 pub returns-clause-printed : goal.returns-clause-printed
 unfolding Rattle.ds_label.specs.Flow.flows Rattle.ds_label.specs.Flow.union
 returns-clause-printed c = (refl, refl, refl)

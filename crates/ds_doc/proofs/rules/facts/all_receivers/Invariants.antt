@@ -1,4 +1,4 @@
-use Rattle.std.proofs.Common.{◌≡◌, ◌++◌, drop, map, flat_map}
+use Rattle.std.proofs.Common.{◌≡◌, ◌++◌, drop, map}
 use Rattle.ds_doc.specs.Rules.{host_receivers}
 use Rattle.ds_doc.proofs.rules.facts.all_receivers.Given as goal
 

@@ -1,4 +1,4 @@
-use Rattle.std.proofs.Common.{◌≡◌, ◌++◌, drop, map, flat_map}
+use Rattle.std.proofs.Common.{◌≡◌, ◌++◌, drop, map}
 use Rattle.ds_doc.specs.Rules.{lane_count}
 use Rattle.ds_doc.proofs.rules.facts.lanes_of.Given as goal
 

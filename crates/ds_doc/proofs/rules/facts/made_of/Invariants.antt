@@ -1,5 +1,4 @@
-use Rattle.std.proofs.Common.{◌≡◌, ◌++◌, drop, map, flat_map}
-
+use Rattle.std.proofs.Common.{◌≡◌, ◌++◌, drop, map}
 use Rattle.ds_doc.proofs.rules.facts.made_of.Given as goal
 
 abbrev pub invariant-loop-process : goal.invariant-loop-process

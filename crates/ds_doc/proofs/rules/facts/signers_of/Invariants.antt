@@ -1,4 +1,4 @@
-use Rattle.std.proofs.Common.{◌≡◌, ◌++◌, drop, map, flat_map}
+use Rattle.std.proofs.Common.{◌≡◌, ◌++◌, drop, flat_map}
 use Rattle.ds_doc.specs.Rules.{signer_of}
 use Rattle.ds_doc.proofs.rules.facts.signers_of.Given as goal
 

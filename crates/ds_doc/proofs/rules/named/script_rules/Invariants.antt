@@ -1,4 +1,4 @@
-use Rattle.std.proofs.Common.{◌≡◌, ◌++◌, [], take, map, flat_map, codes}
+use Rattle.std.proofs.Common.{◌≡◌, ◌++◌, take, flat_map}
 use Rattle.ds_doc.specs.Rules.{unknown_in_op}
 use Rattle.ds_doc.proofs.rules.named.script_rules.Given as goal
 
