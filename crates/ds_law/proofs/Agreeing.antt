@@ -1,12 +1,12 @@
 -- Documents that agree have one plan, and worlds at the start that are equal but for what is high.
-use Rattle.std.proofs.Common.{◌≡◌, ℕ, zero, suc, ◌+◌, Bool, true, false, cond, List, [], ◌∷◌, ◌++◌, length, map, Option, Some, None, slice_get, option_map, refl, sym, ◌∙◌, ap, ap₂, subst, subst₂, ◌⊎◌, inl, inr, arith}
+use Rattle.std.proofs.Common.{◌≡◌, ℕ, suc, true, false, cond, List, [], ◌∷◌, ◌++◌, length, map, Option, Some, None, slice_get, option_map, refl, sym, ◌∙◌, ap, ap₂, subst₂, inl, inr}
 use Rattle.std.specs.List.{flat_map}
 use Rattle.std.proofs.lemmas.Option.{none-some, same_Some, slice_get-map}
 use Rattle.ds_label.specs.declared.category.Category.{Category}
 use Rattle.ds_cert.specs.declared.address.Address.{Address}
-use Rattle.ds_model.specs.Plan.{HostSetup, ConnPlan, Plan, host_plan}
+use Rattle.ds_model.specs.Plan.{ConnPlan}
 use Rattle.ds_model.specs.Desk.{Desk}
-use Rattle.ds_model.specs.World.{Process, Mailbox, Queue, Worker, LaneLine, Conn, Host, World}
+use Rattle.ds_model.specs.World.{Process, Worker, Host}
 use Rattle.ds_model.specs.Inlet.{Inlet}
 use Rattle.ds_model.specs.Scheme.{InletName}
 use Rattle.ds_model.specs.Views.{proc_in, proc_at}
@@ -14,17 +14,15 @@ use Rattle.ds_noninterference.specs.High.{is_in, high_at}
 use Rattle.ds_noninterference.specs.Alike.{Alike, AlikeAt, AlikeHosts, AlikeWorlds}
 use Rattle.ds_plan.specs.declared.doc.Doc.{Doc}
 use Rattle.ds_plan.specs.declared.host.HostSpec.{HostSpec}
-use Rattle.ds_plan.specs.declared.host.LaneSpec.{LaneSpec}
 use Rattle.ds_plan.specs.declared.process.ProcSpec.{ProcSpec}
-use Rattle.ds_plan.specs.declared.process.BoxSpec.{BoxSpec}
 use Rattle.ds_plan.specs.declared.cert.CertSpec.{CertSpec}
 use Rattle.ds_plan.specs.Documents.{is_silent}
 use Rattle.ds_setup.specs.Lists.{each}
 use Rattle.ds_setup.specs.Signed.{DocCert, doc_certs, leaf_behind}
-use Rattle.ds_setup.specs.Plans.{plan_of, host_setup_of, inlets_of, conn_plans_of}
-use Rattle.ds_setup.specs.Starts.{start_of, start_host, start_desk, empty_desk, process_of, kept_at, issued_by, delegations_in, addresses_in, delegations_once, addresses_once, own_addresses, new_conn}
+use Rattle.ds_setup.specs.Plans.{plan_of, host_setup_of, conn_plans_of}
+use Rattle.ds_setup.specs.Starts.{start_of, start_host, start_desk, empty_desk, process_of, kept_at, issued_by, delegations_in, addresses_in, delegations_once, addresses_once, new_conn}
 use Rattle.ds_setup.proofs.Places.{each_at}
-use Rattle.ds_law.specs.TwoDocuments.{without_procs, rest_of, spec_in, spec_at, high_at_setup, AgreeDocs, AgreeingSetups}
+use Rattle.ds_law.specs.TwoDocuments.{without_procs, spec_in, spec_at, high_at_setup, AgreeDocs, AgreeingSetups}
 use Rattle.ds_law.proofs.Same.{each_alike, addresses_same, conns_same, workers_same, inlets_same, host_same, certs_same}
 
 -- lists that end at one place are equally long

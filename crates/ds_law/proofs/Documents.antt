@@ -1,13 +1,11 @@
 -- The law over two runs, of two documents.
-use Rattle.std.proofs.Common.{◌≡◌, ℕ, false, List, refl, sym, ◌∙◌, ap, subst}
+use Rattle.std.proofs.Common.{◌≡◌, ℕ, List, sym, subst}
 use Rattle.ds_label.specs.declared.category.Category.{Category}
 use Rattle.ds_model.specs.Plan.{Plan}
 use Rattle.ds_model.specs.World.{World}
 use Rattle.ds_model.specs.Setup.{IsSetup}
 use Rattle.ds_model.specs.Step.{Event, run}
-use Rattle.ds_model.specs.Text.{Format}
-use Rattle.ds_model.specs.Views.{view_of_proc, view_of_host, proc_at}
-use Rattle.ds_noninterference.specs.High.{is_in, high_at}
+use Rattle.ds_model.specs.Views.{view_of_proc, view_of_host}
 use Rattle.ds_noninterference.specs.Law.{Premises, AtEnd}
 use Rattle.ds_noninterference.specs.Law.{SameProcesses as EqualProcesses, SameHosts as EqualHosts, SameSections as EqualSections}
 use Rattle.ds_noninterference.specs.Observations.{marks}

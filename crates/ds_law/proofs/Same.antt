@@ -1,15 +1,13 @@
 -- What setup makes of a document without its processes.
-use Rattle.std.proofs.Common.{◌≡◌, ℕ, zero, suc, Bool, cond, List, [], ◌∷◌, ◌++◌, length, map, get_or, Option, Some, None, slice_get, option_map, refl, sym, ◌∙◌, ap, ap₂}
+use Rattle.std.proofs.Common.{◌≡◌, ℕ, suc, cond, List, [], ◌∷◌, ◌++◌, length, map, get_or, Option, Some, None, slice_get, option_map, refl, sym, ◌∙◌, ap, ap₂}
 use Rattle.std.specs.List.{flat_map}
-use Rattle.std.proofs.lemmas.Option.{none-some, same_Some, slice_get-map}
+use Rattle.std.proofs.lemmas.Option.{same_Some, slice_get-map}
 use Rattle.ds_label.specs.declared.category.PubKey.{PubKey}
-use Rattle.ds_cert.specs.declared.address.Address.{Address}
 use Rattle.ds_cert.specs.declared.cert.Cert.TheVariants.{Delegation}
 use Rattle.ds_cert.specs.declared.lane.LaneCert.{LaneCert}
 use Rattle.ds_model.specs.Keys.{no_key}
-use Rattle.ds_model.specs.Scheme.{SigningKey, InletName, delegation_by}
+use Rattle.ds_model.specs.Scheme.{InletName, delegation_by}
 use Rattle.ds_model.specs.Plan.{LanePlan, HostSetup, ConnPlan, Link}
-use Rattle.ds_model.specs.Desk.{Desk}
 use Rattle.ds_model.specs.World.{Worker}
 use Rattle.ds_scheme.specs.TheScheme.{scheme}
 use Rattle.ds_plan.specs.declared.host.HostSpec.{HostSpec}

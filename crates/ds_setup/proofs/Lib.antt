@@ -4,3 +4,4 @@ pub mod Setups
 pub mod Receivers
 pub mod Numbers
 pub mod Desks
+pub mod Runs

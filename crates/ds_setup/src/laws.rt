@@ -1,6 +1,7 @@
 //! What holds of every document's setup. The functions do nothing: their contracts are the laws.
 
 ghost use Rattle.ds_plan.specs.declared.doc.Doc.{Doc};
+ghost use Rattle.ds_setup.specs.Events.{EachHasARun, EachHasOneRun};
 ghost use Rattle.ds_setup.specs.Setups.{ConnsAreInOrder, EachIssuesInOrder, EachLaneIsReceived, EachSetupFits, SilentDesksAreEmpty};
 
 /// Setup sees to what both theorems about runs ask of it, for every document that was read.
@@ -22,4 +23,11 @@ pub fn connections_are_in_order()
 pub fn desks_begin_so()
     ensures issued { EachIssuesInOrder }
     ensures silent { SilentDesksAreEmpty }
+{}
+
+/// A document's run has the events that the document gives, or else those of the canonical schedule: there is one list of them, and
+/// one alone.
+pub fn runs_are_one()
+    ensures some { EachHasARun }
+    ensures one { EachHasOneRun }
 {}

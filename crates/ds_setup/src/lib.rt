@@ -4,4 +4,6 @@
 
 mod laws;
 
-pub use laws::{connections_are_in_order, desks_begin_so, lanes_are_received, setups_fit};
+pub use laws::{
+    connections_are_in_order, desks_begin_so, lanes_are_received, runs_are_one, setups_fit,
+};
