@@ -123,7 +123,10 @@ fn sync_folder<R: Files>(files: &R, path: &str) -> io::Result<()> {
 
 /// Makes the folder unless it exists, open to its owner alone, so that it stays.
 fn make_folder<R: Files>(files: &R, paths: &Paths) -> io::Result<()> {
-    match DirBuilder::new().mode(0o700).create(files, paths.folder.as_str()) {
+    match DirBuilder::new()
+        .mode(0o700)
+        .create(files, paths.folder.as_str())
+    {
         Ok(()) => {}
         Err(e) if e.kind() == ErrorKind::AlreadyExists => {}
         Err(e) => return Err(e),

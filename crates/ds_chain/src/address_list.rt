@@ -99,7 +99,12 @@ impl AddressList {
     pub fn find(&self, exporter: &PubKey, now: u64) -> Option<&Address>
         ensures { option_copied result ≡ find_address self.now.items now exporter.now }
     {
-        first_telling(self.certs.as_slice(), self.good_flags.as_slice(), exporter, now)
+        first_telling(
+            self.certs.as_slice(),
+            self.good_flags.as_slice(),
+            exporter,
+            now,
+        )
     }
 
     /// Makes room for one address certificate. After `AllocError`, which says that memory ran out, the certificates are the

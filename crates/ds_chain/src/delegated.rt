@@ -29,8 +29,20 @@ pub fn search(
     ensures shortest { IfOk result (λ answer. IfSome answer (λ chain. IsShortestChain (hops_of_list now category.now (list.now.items ++ extra.now.items)) category.now.creator chain key.now)) }
 {
     let mut edges = EdgeList::new(alloc);
-    add_hops(&mut edges, list.as_slice(), list.good_flags(), now, category)?;
-    add_hops(&mut edges, extra.as_slice(), extra.good_flags(), now, category)?;
+    add_hops(
+        &mut edges,
+        list.as_slice(),
+        list.good_flags(),
+        now,
+        category,
+    )?;
+    add_hops(
+        &mut edges,
+        extra.as_slice(),
+        extra.good_flags(),
+        now,
+        category,
+    )?;
     edges.search(alloc, &category.creator, key)
 }
 

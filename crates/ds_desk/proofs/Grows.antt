@@ -1,15 +1,13 @@
 -- A desk that is one entry longer.
 use Rattle.std.specs.Prelude.{◌&&◌, unwrap_or}
 use Rattle.lms_sig.specs.Keys.{Key}
-use Rattle.lms_sig.specs.Parameters.{lms_code, ots_code, lms_type, ots_type, both_types, signature_length}
+use Rattle.lms_sig.specs.Parameters.{lms_code, ots_code, lms_type, ots_type, both_types}
 use Rattle.lms_sig.specs.declared.params.Params.{Params}
 use Rattle.lms_sig.specs.declared.params.LmsType.{LmsType}
 use Rattle.lms_sig.specs.declared.params.LmsType.TheVariants.{H5, H10}
 use Rattle.lms_sig.specs.declared.params.OtsType.{OtsType}
 use Rattle.lms_sig.specs.declared.params.OtsType.TheVariants.{W4, W8}
-use Rattle.lms_sig.proofs.Lengths.{length-signature}
-use Rattle.lms_state.specs.Signers.{Signing, next_signature}
-use Rattle.std.proofs.Common.{◌≡◌, ℕ, ◌<◌, ◌≤◌, length, List, [], ◌∷◌, ◌++◌, Bool, true, false, Option, Some, None, refl, sym, ap, ◌∙◌, arith}
+use Rattle.std.proofs.Common.{◌≡◌, ℕ, ◌<◌, List, [], ◌∷◌, ◌++◌, Bool, true, false, Some, None, refl, ap, ◌∙◌, arith}
 use Rattle.ds_label.specs.declared.rule.Rule.{Rule}
 use Rattle.ds_model.specs.FirstRule.{unless, first_rule}
 use Rattle.ds_script.specs.declared.actor.Actor.{Actor}
@@ -17,7 +15,7 @@ use Rattle.ds_script.specs.Replay.{onward, last_of}
 use Rattle.ds_script.proofs.Replays.{replay-push, rises-push, last_of-push}
 use Rattle.ds_model.specs.Scheme.{Scheme}
 use Rattle.ds_model.specs.Plan.{HostPlan}
-use Rattle.ds_model.specs.Desk.{Desk, desk_after, desk_needs, desk_step, Ticked, Delegated, Imported, Mapped, Looked, Denied, is_none, DeskEntry as Change}
+use Rattle.ds_model.specs.Desk.{Desk, desk_after, desk_needs, Ticked, Delegated, Imported, Mapped, Looked, Denied, is_none, DeskEntry as Change}
 use Rattle.ds_desk.specs.declared.act.DeskEntry.{DeskEntry}
 use Rattle.ds_desk.specs.Signing.{desk_scheme, desk_plan, key_of, signing_of, with_signature}
 use Rattle.ds_cert.specs.declared.delegation.Delegation.{Delegation}

@@ -1,5 +1,5 @@
 -- What the desk needs of a scheme, and of a host's plan: the certificates' signatures, their spelling, and the identity key.
-use Rattle.std.specs.Prelude.{ℕ, Bool, List, [], Option, Some, None, Result, Ok, Err, nat_lt, unwrap_or}
+use Rattle.std.specs.Prelude.{ℕ, List, [], Option, Some, None, Result, Ok, Err, nat_lt, unwrap_or}
 use Rattle.lms_sig.specs.Keys.{Key}
 use Rattle.lms_sig.specs.Merkle.{signature}
 use Rattle.lms_sig.specs.Parameters.{lms_code, ots_code, lms_type, ots_type, both_types}
@@ -10,7 +10,6 @@ use Rattle.lms_state.specs.Signers.{leaves_of}
 use Rattle.ds_label.specs.declared.category.PubKey.{PubKey}
 use Rattle.ds_label.specs.declared.category.Category.{Category}
 use Rattle.ds_cert.specs.declared.delegation.Delegation.{Delegation}
-use Rattle.ds_cert.specs.declared.cert.Cert.{Cert}
 use Rattle.ds_cert.specs.Good.{is_good_delegation, is_good_address}
 use Rattle.ds_cert.specs.Reading.{read_cert}
 use Rattle.ds_cert.specs.Spelling.{signed_part_of_delegation, spelling_of_delegation}

@@ -45,7 +45,7 @@ fn delegate_rule(store: &CertList, signer: &Signer) -> Option<Rule>
 impl DeskState {
     /// A delegation by this host, with the signature at the identity key's next leaf, spelled: `to` may act for the category
     /// from the moment `from` on and before `until`. It joins the delegations that are kept, unless it is there, and those
-    /// that the host made.
+    /// that the host made. The spelling has at most 2,704 bytes.
     ///
     /// # Errors
     ///
@@ -72,6 +72,7 @@ impl DeskState {
         ensures answer { (s : Scheme) (plan : HostPlan) → AnswersOver Made result (reply_for s plan (kept_of self.old) (Delegating category to from until)) }
         ensures entry { (s : Scheme) (plan : HostPlan) → EntersOver result (kept_of self.old)
             (entered stamp who (entry_for s plan (kept_of self.old) (Delegating category to from until)) (kept_of self.old)) (kept_of self.new) }
+        ensures short { IfOk result (λ bytes. length bytes ≤ 2704) }
         ensures kept { IsKept self.new }
         ensures last { last_stamp self.new ≤ stamp }
         ensures faults { K.faults keeper.old ≤ K.faults keeper.new }

@@ -123,6 +123,7 @@ pub fn signed_of(draft: Draft, signature: Vec<u8>) -> Signed
     ensures issued { result.issued ≡ with_signature draft.blank signature.items }
     ensures entered { result.entered ≡ with_signature draft.blank signature.items }
     ensures spelling { result.spelling ≡ spelling_of_delegation (with_signature draft.blank signature.items) }
+    ensures size { length result.spelling ≤ 2704 }
 {
     let Draft {
         blank,
@@ -134,6 +135,7 @@ pub fn signed_of(draft: Draft, signature: Vec<u8>) -> Signed
     let issued = with_signature(&blank, copied(first, signature.as_slice()));
     let entered = with_signature(&blank, copied(second, signature.as_slice()));
     let kept = with_signature(&blank, Bytes::from_vec(signature));
+    kept.show_fits();
     Signed {
         kept,
         issued,

@@ -1,7 +1,7 @@
 //! The entries of a desk.
 #![tactic(auto)]
 
-ghost use Rattle.std.specs.Prelude.{◌≡◌, ◌↔◌, ℕ, ◌≤◌, ◌<◌, ◌++◌, [], ◌∷◌, length, IsTrue, OnOk};
+ghost use Rattle.std.specs.Prelude.{◌≡◌, ◌↔◌, ℕ, ◌≤◌, ◌<◌, ◌++◌, [], ◌∷◌, length, option_copied, slice_get, IsTrue, OnOk};
 ghost use Rattle.ds_script.specs.Replay.{last_of};
 ghost use Rattle.ds_desk.specs.Desks.{stamp_of};
 
@@ -48,6 +48,13 @@ impl DeskHistory {
         ensures { IsTrue result ↔ (self.now.items ≡ []) }
     {
         self.entries.as_slice().is_empty()
+    }
+
+    /// The entry at a place, from 0.
+    pub fn get(&self, place: usize) -> Option<&DeskEntry>
+        ensures { option_copied result ≡ slice_get self.now.items place }
+    {
+        self.entries.get(place)
     }
 
     /// The entries, in order.

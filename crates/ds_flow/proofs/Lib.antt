@@ -1,2 +1,3 @@
 pub mod Flows
 pub mod Doubles
+pub mod Carries

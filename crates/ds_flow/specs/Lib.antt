@@ -1,3 +1,4 @@
 pub mod Chains
 pub mod Judged
 pub mod Asked
+pub mod Carried

@@ -1,43 +1,101 @@
 //! The certificates that go with a message.
 
 ghost use Rattle.std.specs.Prelude.{◌≡◌, ◌++◌, [], ◌∷◌, map, filter, filter_map, slice_get, IfOk, OnOk};
+ghost use Rattle.std.specs.List.{AllByRecursion};
+ghost use Rattle.ds_wire.specs.Fields.{IsBytes};
+ghost use Rattle.ds_cert.specs.Ranges.{DelegationRange};
 ghost use Rattle.ds_cert.specs.Spelling.{spelling_of_delegation};
+ghost use Rattle.ds_msg.specs.Ranges.{CertsFit};
 ghost use Rattle.ds_model.specs.ExporterRules.{attach, attach_all, with_attached};
 ghost use Rattle.ds_model.specs.Scheme.{Scheme};
 ghost use Rattle.ds_flow.specs.Asked.{attach_each, is_integrity, spelled_chain};
 ghost use Rattle.ds_flow.specs.Chains.{flow_scheme};
 
+use ds_cert::Delegation;
 use ds_chain::{CertList, search};
 use ds_label::{Category, Kind, Label, PubKey};
 use ds_msg::CertBytes;
-use ds_wire::Bytes;
 use std::alloc::{AllocError, Global};
+use std::marker::Model;
 
 /// The most certificates of a message.
 const ATTACH_LIMIT: usize = 16;
 
-/// Appends a spelled certificate, unless it is there or there are 16.
-fn add(certs: &mut CertBytes, spelled: Bytes) -> Result<(), AllocError>
-    ensures { OnOk result (certs.new ≡ with_attached spelled certs.old) }
+/// A slice of bytes is a list of bytes. It does nothing: its contract is what the type says.
+fn show_bytes(bytes: &[u8])
+    ensures { IsBytes bytes.now }
 {
-    if certs.has(spelled.as_slice()) || certs.len() >= ATTACH_LIMIT {
-        return Ok(());
+    let _size = bytes.len();
+}
+
+/// What is attached so far: at most 16 spelled delegations in range, none twice. Contracts see the list.
+#[derive(Drop)]
+struct Attachments {
+    certs: CertBytes,
+}
+
+impl Model for Attachments {
+    ghost use Rattle.std.specs.Prelude.{ℕ, List};
+    ghost use Rattle.ds_flow.specs.Carried.{MayCarry};
+
+    ghost Value = { List (List ℕ) };
+
+    ghost view = { λ a. a.certs };
+
+    ghost invariant = { λ a. MayCarry a.certs };
+}
+
+impl Attachments {
+    /// Nothing. Takes no memory.
+    fn none(alloc: Global) -> Attachments
+        ensures { result ≡ [] }
+    {
+        Attachments {
+            certs: CertBytes::new(alloc),
+        }
     }
-    certs.push(spelled)
+
+    /// Appends a delegation, unless it is there or there are 16.
+    fn add(&mut self, cert: &Delegation) -> Result<(), AllocError>
+        requires { DelegationRange cert.now }
+        ensures { OnOk result (self.new ≡ with_attached (spelling_of_delegation cert.now) self.old) }
+    {
+        cert.show_fits();
+        let spelled = cert.encode()?;
+        show_bytes(spelled.as_slice());
+        if self.certs.has(spelled.as_slice()) || self.certs.len() >= ATTACH_LIMIT {
+            return Ok(());
+        }
+        self.certs.push(spelled)?;
+        Ok(())
+    }
+
+    /// The certificates. Takes no memory.
+    fn into_certs(self) -> CertBytes
+        ensures certs { result ≡ self }
+        ensures fits { CertsFit self }
+        ensures bytes { AllByRecursion IsBytes self }
+    {
+        self.certs
+    }
 }
 
 /// Attaches the delegation at a place, where there is one.
-fn attach_place(certs: &mut CertBytes, store: &CertList, place: u32) -> Result<(), AllocError>
+fn attach_place(certs: &mut Attachments, store: &CertList, place: u32) -> Result<(), AllocError>
     ensures { OnOk result (certs.new ≡ attach_all certs.old (map spelling_of_delegation (filter_map (slice_get store.now.items) (place ∷ [])))) }
 {
     let Some(cert) = store.get(place as usize) else {
         return Ok(());
     };
-    add(certs, cert.encode()?)
+    certs.add(cert)
 }
 
 /// Attaches the delegations at these places.
-fn attach_places(certs: &mut CertBytes, store: &CertList, places: &[u32]) -> Result<(), AllocError>
+fn attach_places(
+    certs: &mut Attachments,
+    store: &CertList,
+    places: &[u32],
+) -> Result<(), AllocError>
     ensures { OnOk result (certs.new ≡ attach_all certs.old (map spelling_of_delegation (filter_map (slice_get store.now.items) places.now))) }
 {
     for place in places {
@@ -49,7 +107,7 @@ fn attach_places(certs: &mut CertBytes, store: &CertList, places: &[u32]) -> Res
 /// Attaches the delegations of the shortest chain by which the exporter `here` holds the category.
 fn attach_chain(
     alloc: Global,
-    certs: &mut CertBytes,
+    certs: &mut Attachments,
     store: &CertList,
     now: u64,
     here: &PubKey,
@@ -67,7 +125,7 @@ fn attach_chain(
 /// Attaches what shows that the exporter `here` holds each of these categories.
 fn attach_members(
     alloc: Global,
-    certs: &mut CertBytes,
+    certs: &mut Attachments,
     store: &CertList,
     now: u64,
     here: &PubKey,
@@ -84,7 +142,7 @@ fn attach_members(
 /// The same for the integrity categories of a label.
 fn attach_integrity(
     alloc: Global,
-    certs: &mut CertBytes,
+    certs: &mut Attachments,
     store: &CertList,
     now: u64,
     here: &PubKey,
@@ -109,11 +167,11 @@ fn attached(
     label: &Label,
     own: &Label,
     clear: &Label,
-) -> Result<CertBytes, AllocError>
+) -> Result<Attachments, AllocError>
     ensures { IfOk result (λ certs. certs ≡ attach_each (spelled_chain store.now.items now here.now)
         (attach_each (spelled_chain store.now.items now here.now) (attach_each (spelled_chain store.now.items now here.now) [] (filter is_integrity label.now)) own.now) clear.now) }
 {
-    let mut certs = CertBytes::new(alloc);
+    let mut certs = Attachments::none(alloc);
     attach_integrity(alloc, &mut certs, store, now, here, label.as_slice())?;
     attach_members(alloc, &mut certs, store, now, here, own.as_slice())?;
     attach_members(alloc, &mut certs, store, now, here, clear.as_slice())?;
@@ -122,7 +180,8 @@ fn attached(
 
 /// The certificates that the exporter `here` attaches to a message with these labels at the moment `now`: for each integrity
 /// category of the label, then each granted ownership and each granted clearance, in label order, the delegations of its
-/// own shortest chain by what the host keeps, in chain order, each once, until there are 16. `AllocError` where memory runs out.
+/// own shortest chain by what the host keeps, in chain order, each once, until there are 16. So they are fit for a message: at
+/// most 16, none twice, and each spells a delegation in range. `AllocError` where memory runs out.
 pub fn attach(
     alloc: Global,
     store: &CertList,
@@ -132,7 +191,10 @@ pub fn attach(
     own: &Label,
     clear: &Label,
 ) -> Result<CertBytes, AllocError>
-    ensures { (s : Scheme) → IfOk result (λ certs. certs ≡ attach (flow_scheme s) store.now.items now here.now label.now own.now clear.now) }
+    ensures certs { (s : Scheme) → IfOk result (λ certs. certs ≡ attach (flow_scheme s) store.now.items now here.now label.now own.now clear.now) }
+    ensures fits { IfOk result CertsFit }
+    ensures bytes { IfOk result (AllByRecursion IsBytes) }
 {
-    attached(alloc, store, now, here, label, own, clear)
+    let certs = attached(alloc, store, now, here, label, own, clear)?;
+    Ok(certs.into_certs())
 }

@@ -9,3 +9,4 @@ pub mod BodyLaws
 pub mod Goods
 pub mod Lengths
 pub mod Written
+pub mod PrefixFree

@@ -49,6 +49,17 @@ StartsWith None (items.Frame frame) bytes rest = ⊥
 StartsWith (Some lane) (items.Hello other) bytes rest = ⊥
 StartsWith (Some lane) (items.Frame frame) bytes rest = StartsWithFrame lane.key frame bytes rest
 
+-- ---- one spelling a value, and none a proper prefix of another
+
+-- a frame and a signature that have a spelling
+pub record SignedFrameFits (f : Frame × List ℕ) : Type 0 where
+  pub number : f.0.number < 2 ^ 32
+  pub bodies : BodiesRange f.0.bodies
+  pub signature : FrameSignatureFits f.1
+
+abbrev pub spelling_of_signed_frame : Frame × List ℕ → List ℕ
+spelling_of_signed_frame f = spelling_of_frame f.0.number f.0.bodies f.1
+
 -- ---- proper prefixes
 
 -- a proper prefix of a spelling is open

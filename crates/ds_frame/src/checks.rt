@@ -31,7 +31,10 @@ pub fn checked_cert(alloc: Global, cert: &[u8]) -> Result<LaneCert, ReadFaultOrM
             }
             Ok(lane)
         }
-        Err(CertFault::Malformed(place)) => Err(ReadFaultOrMemory::Broken(Cause::HelloCert, 6 + place as usize)),
+        Err(CertFault::Malformed(place)) => Err(ReadFaultOrMemory::Broken(
+            Cause::HelloCert,
+            6 + place as usize,
+        )),
         Err(CertFault::NoMemory) => Err(ReadFaultOrMemory::NoMemory),
     }
 }

@@ -12,7 +12,12 @@ use ds_wire::{get_bytes, get_u8, get_u16, get_u32};
 
 /// This very byte.
 #[tactic(auto, unfolding(crate::specs::Fields::number_from))]
-pub fn byte_of(bytes: &[u8], byte: u8, cause: Cause, offset: usize) -> Result<(u8, &[u8]), ReadFaultOrMemory>
+pub fn byte_of(
+    bytes: &[u8],
+    byte: u8,
+    cause: Cause,
+    offset: usize,
+) -> Result<(u8, &[u8]), ReadFaultOrMemory>
     ensures { Finds (λ x. (x.0, x.1.now)) result (number_from w8 byte byte cause offset bytes.now) }
 {
     let Ok((number, rest)) = get_u8(bytes) else {
@@ -26,7 +31,12 @@ pub fn byte_of(bytes: &[u8], byte: u8, cause: Cause, offset: usize) -> Result<(u
 
 /// A number of two bytes from 1 to `high`.
 #[tactic(auto, unfolding(crate::specs::Fields::number_from))]
-pub fn short_of(bytes: &[u8], high: u16, cause: Cause, offset: usize) -> Result<(u16, &[u8]), ReadFaultOrMemory>
+pub fn short_of(
+    bytes: &[u8],
+    high: u16,
+    cause: Cause,
+    offset: usize,
+) -> Result<(u16, &[u8]), ReadFaultOrMemory>
     ensures gives { Finds (λ x. (x.0, x.1.now)) result (number_from w16 1 high cause offset bytes.now) }
     ensures most { IfOk result (λ x. x.0 ≤ high) }
 {
@@ -41,7 +51,12 @@ pub fn short_of(bytes: &[u8], high: u16, cause: Cause, offset: usize) -> Result<
 
 /// A number of four bytes from 1 to `high`.
 #[tactic(auto, unfolding(crate::specs::Fields::number_from))]
-pub fn long_of(bytes: &[u8], high: u32, cause: Cause, offset: usize) -> Result<(u32, &[u8]), ReadFaultOrMemory>
+pub fn long_of(
+    bytes: &[u8],
+    high: u32,
+    cause: Cause,
+    offset: usize,
+) -> Result<(u32, &[u8]), ReadFaultOrMemory>
     ensures gives { Finds (λ x. (x.0, x.1.now)) result (number_from w32 1 high cause offset bytes.now) }
     ensures most { IfOk result (λ x. x.0 ≤ high) }
 {

@@ -2,9 +2,10 @@
 
 ghost use Rattle.std.specs.Prelude.{◌≡◌, ◌++◌, List, ℕ, Ok, None, Some};
 ghost use Rattle.ds_cert.specs.Laws.{IsPrefixFree, IsSpelling};
+ghost use Rattle.ds_cert.specs.Ranges.{LaneCertFits};
 ghost use Rattle.ds_cert.specs.declared.lane.LaneCert.{LaneCert};
 ghost use Rattle.ds_frame.specs.Checks.{read_item};
-ghost use Rattle.ds_frame.specs.Laws.{IsFrame, IsHello, IsOpenBefore, IsReadByPieces, IsStreamOf};
+ghost use Rattle.ds_frame.specs.Laws.{IsFrame, IsHello, IsOpenBefore, IsReadByPieces, IsStreamOf, SignedFrameFits, spelling_of_signed_frame};
 ghost use Rattle.ds_frame.specs.Outer.{read_outer_frame, read_outer_hello};
 ghost use Rattle.ds_frame.specs.Ranges.{HelloFits, OuterFrameFits};
 ghost use Rattle.ds_frame.specs.Spelling.{outer_spelling_of_frame, outer_spelling_of_hello, spelling_of_frame, spelling_of_hello};
@@ -22,6 +23,13 @@ pub fn reading_undoes_spelling()
 pub fn spellings_are_prefix_free()
     ensures hello { IsPrefixFree HelloFits outer_spelling_of_hello }
     ensures frame { IsPrefixFree OuterFrameFits outer_spelling_of_frame }
+{}
+
+/// The same of the values: no two lane certificates have one hello, no two frames with their signatures have one spelling, and
+/// none of these is a proper prefix of another one of its kind.
+pub fn values_are_prefix_free()
+    ensures hello { IsPrefixFree LaneCertFits spelling_of_hello }
+    ensures frame { IsPrefixFree SignedFrameFits spelling_of_signed_frame }
 {}
 
 /// Of a proper prefix of an outer spelling no more can be told: it is neither whole nor broken.

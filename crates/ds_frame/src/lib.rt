@@ -19,7 +19,7 @@ mod writing;
 
 pub use bodies::BodyList;
 pub use cause::Cause;
-pub use item::{Failure, Frame, ReadFaultOrMemory, Item, ReadEnd};
+pub use item::{Failure, Frame, Item, ReadEnd, ReadFaultOrMemory};
 pub use laws::{
     items_are_read_again, pieces_make_no_difference, prefixes_are_open, reading_undoes_spelling,
     spellings_are_prefix_free, streams_carry_what_was_written,

@@ -1,11 +1,11 @@
 //! A reader of a stream that comes in pieces.
 
-ghost use Rattle.std.specs.Prelude.{◌≡◌, ◌≤◌, ◌+◌, drop, length, IfOk, None, OnOk, OnErr, Some};
+ghost use Rattle.std.specs.Prelude.{◌≡◌, ◌≤◌, ◌+◌, drop, length, Err, IfOk, IfSome, None, OnOk, OnErr, Some};
 ghost use Rattle.ds_frame.specs.Laws.{StartsWith};
 ghost use Rattle.ds_frame.specs.Reader.{Answered, fed, lane_after, new_reader};
 
 use crate::cause::Cause;
-use crate::item::{Failure, ReadFaultOrMemory, Item, ReadEnd};
+use crate::item::{Failure, Item, ReadEnd, ReadFaultOrMemory};
 use crate::reading::item_of;
 use ds_cert::LaneCert;
 use std::alloc::{AllocError, Global};
@@ -55,11 +55,13 @@ impl FrameReader {
     }
 
     /// The next item of the stream. `NotYet` comes exactly where it isn't whole and each field of it that is whole is in range;
-    /// `BadFrame` exactly where it breaks the stream, with the first cause and its place, and from then on for ever. After
-    /// `NoMemory`, which says that memory ran out, nothing changed.
+    /// `BadFrame` exactly where it breaks the stream, with the first cause and its place, and from then on for ever, whatever
+    /// memory there is. After `NoMemory`, which says that memory ran out, nothing changed.
     pub fn next(&mut self) -> Result<Item, ReadEnd>
         // What the definition says of the bytes at hand.
         ensures exact { Answered self.old result self.new }
+        // A reader that failed answers its failure, and never that memory ran out.
+        ensures failed { IfSome self.old.failure (λ failure. result ≡ Err (ReadEnd.BadFrame failure.cause failure.place)) }
         // The bytes at hand are the item's spelling, signed as it must be, and the rest.
         ensures starts { IfOk result (λ item. StartsWith self.old.lane item self.old.rest self.new.rest) }
     {

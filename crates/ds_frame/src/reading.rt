@@ -9,7 +9,7 @@ ghost use Rattle.ds_frame.specs.Spelling.{signed_fields};
 
 use crate::cause::Cause;
 use crate::checks::{begins_with, checked_cert, is_good};
-use crate::item::{Frame, ReadFaultOrMemory, Item};
+use crate::item::{Frame, Item, ReadFaultOrMemory};
 use crate::outer::{OuterFrame, outer_frame, outer_hello};
 use crate::splitting::split;
 use ds_cert::LaneCert;
@@ -52,7 +52,11 @@ fn checked_frame(
 
 /// The frame at the front, whose signature is good under the key, and what follows the frame.
 #[tactic(auto, unfolding(crate::specs::Checks::read_frame))]
-pub fn frame_of<'a>(alloc: Global, key: &PubKey, bytes: &'a [u8]) -> Result<(Frame, &'a [u8]), ReadFaultOrMemory>
+pub fn frame_of<'a>(
+    alloc: Global,
+    key: &PubKey,
+    bytes: &'a [u8],
+) -> Result<(Frame, &'a [u8]), ReadFaultOrMemory>
     ensures { Finds (λ x. (x.0, x.1.now)) result (read_frame key.now bytes.now) }
 {
     let (fields, rest) = outer_frame(bytes)?;
@@ -83,7 +87,11 @@ fn item_and_rest<'a>(
 }
 
 /// The item at the front and how many bytes it takes: a hello where there is no lane certificate yet, else a frame.
-pub fn item_of(alloc: Global, lane: &Option<LaneCert>, bytes: &[u8]) -> Result<(Item, usize), ReadFaultOrMemory>
+pub fn item_of(
+    alloc: Global,
+    lane: &Option<LaneCert>,
+    bytes: &[u8],
+) -> Result<(Item, usize), ReadFaultOrMemory>
     ensures gives { Finds (λ x. (x.0, drop x.1 bytes.now)) result (read_item lane.now bytes.now) }
     ensures size { IfOk result (λ x. x.1 ≤ length bytes.now) }
     ensures starts { IfOk result (λ x. StartsWith lane.now x.0 bytes.now (drop x.1 bytes.now)) }

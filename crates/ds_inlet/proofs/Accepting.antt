@@ -112,6 +112,7 @@ module _ (here : PubKey) (inlets : List InletName) where
       see x e (Err stop) q = Stopped stop
           (read_by lane bytes ∙ (ap by_item e ∙ ap (λ (r : Result Seen ReadFault). r >>= λ (s : Seen). item_ok x) q))
           (seen_by lane bytes ∙ (ap by_seen e ∙ ap (λ (r : Result Seen ReadFault). r >>= λ (s : Seen). seen_ok (s, x.1)) q))
+
       go : (r : Result (Item × List ℕ) ReadFault) → read_item lane bytes ≡ r → Found here inlets lane bytes
       go (Ok x) e = see x e (host_item here inlets x.0) refl
       go (Err stop) e = Stopped stop (read_by lane bytes ∙ ap by_item e) (seen_by lane bytes ∙ ap by_seen e)
@@ -368,9 +369,9 @@ module _ (s : Scheme) (plan : HostPlan) (link : List ℕ) (k : Connection) (is :
   peer_offered lane known =
       let first : BeginsWith (Some lane) (seen_of_items k.here k.inlets is.handed) = subst (λ (l : Option LaneCert). BeginsWith l (seen_of_items k.here k.inlets is.handed)) known is.begins in
       ap (λ (xs : List Seen). hello_of (slice_get xs 0))
-        (ap (λ (u : Stream). seen_of_items k.here k.inlets u.items) (so_far_now (host_reading k.here k.inlets) (steady_host k.here k.inlets) k.arrived is.handed k.reader is.so_far)
-        ∙ (seen_append k.here k.inlets is.handed rest_ahead.items
-        ∙ ap (λ (xs : List Seen). xs ++ seen_of_items k.here k.inlets rest_ahead.items) first.1))
+      (ap (λ (u : Stream). seen_of_items k.here k.inlets u.items) (so_far_now (host_reading k.here k.inlets) (steady_host k.here k.inlets) k.arrived is.handed k.reader is.so_far)
+      ∙ (seen_append k.here k.inlets is.handed rest_ahead.items
+      ∙ ap (λ (xs : List Seen). xs ++ seen_of_items k.here k.inlets rest_ahead.items) first.1))
 
   fine_now : k.reader.failure ≡ None
   fine_now = subst (λ (x : Option OfferedFrame). IsFine x k.reader.failure) there is.fine
@@ -385,8 +386,8 @@ module _ (s : Scheme) (plan : HostPlan) (link : List ℕ) (k : Connection) (is :
       ∙ (ap (frame_from (inlet_plan plan k) y o.number o.messages) (peer_offered lane known)
       ∙ (ap (take_frame y o.number o.messages) seated
       ∙ ap₂ (λ (f g : Conn). AsksInlet o.inlet o.number f g)
-        (sym (subst (λ (x : Option OfferedFrame). plain_conn link None (settled_as true x k) ≡ fresh_frame y o.number o.messages) there (plain_fresh link None k o there)))
-        (sym (subst (λ (x : Option OfferedFrame). plain_conn link None (settled_as false x k) ≡ stale_frame y o.number) there (plain_stale link None k o there)))))
+      (sym (subst (λ (x : Option OfferedFrame). plain_conn link None (settled_as true x k) ≡ fresh_frame y o.number o.messages) there (plain_fresh link None k o there)))
+      (sym (subst (λ (x : Option OfferedFrame). plain_conn link None (settled_as false x k) ≡ stale_frame y o.number) there (plain_stale link None k o there)))))
 
 accepts_offered : (s : Scheme) (plan : HostPlan) (link : List ℕ) (k : Connection) (is : IsReadSoFar k) → HasInlet k.inlets k.reader.lane → (o : Option OfferedFrame) → k.offered ≡ o → IsForInlet (lane_inlet_of k.inlets k.reader.lane) o
     → Accepts link k.reader.failure (step_unless_offered o k).answer (step_unless_offered o k).conn (accept_free (inlet_scheme s) (inlet_plan plan k) (plain_conn link None k) k.arrived [] None (seen_failure k.reader.failure))

@@ -19,7 +19,7 @@ use crate::hosts::{Seen, seen_reading};
 use crate::names::InletNames;
 use crate::offer::{ConnEntry, Offer, Pending};
 use ds_cert::LaneCert;
-use ds_frame::{Cause, Failure, ReadFaultOrMemory, ReadEnd};
+use ds_frame::{Cause, Failure, ReadEnd, ReadFaultOrMemory};
 use ds_label::{PubKey, Rule};
 use ds_msg::{LocalMessage, Message};
 use ds_script::Actor;

@@ -12,7 +12,7 @@ ghost use Rattle.ds_inlet.specs.ItemInside.{seen_of};
 
 use crate::names::InletNames;
 use ds_cert::{CertFault, LaneCert};
-use ds_frame::{Cause, ReadFaultOrMemory, Item, item_of};
+use ds_frame::{Cause, Item, ReadFaultOrMemory, item_of};
 use ds_label::PubKey;
 use ds_msg::Message;
 use ds_wire::Bytes;
@@ -36,7 +36,11 @@ fn is_same_key(a: &PubKey, b: &PubKey) -> bool
 }
 
 /// The lane certificate, where it leads to this host, which has an inlet for it.
-fn admitted(here: &PubKey, inlets: &InletNames, lane: LaneCert) -> Result<LaneCert, ReadFaultOrMemory>
+fn admitted(
+    here: &PubKey,
+    inlets: &InletNames,
+    lane: LaneCert,
+) -> Result<LaneCert, ReadFaultOrMemory>
     ensures { Finds (λ x. x) result (admitted here.now inlets.now lane) }
 {
     if !is_same_key(&lane.receiver, here) {
@@ -77,7 +81,11 @@ fn append(messages: &mut VecDeque<Message>, message: Message) -> Result<(), Allo
 
 /// The messages that these bytes spell. The first one's count stands at that place.
 #[tactic(auto, using(crate::proofs::Messages::one_more))]
-fn messages_of(alloc: Global, start: usize, bodies: &[Bytes]) -> Result<VecDeque<Message>, ReadFaultOrMemory>
+fn messages_of(
+    alloc: Global,
+    start: usize,
+    bodies: &[Bytes],
+) -> Result<VecDeque<Message>, ReadFaultOrMemory>
     ensures gives { Finds (λ x. x.items) result (messages_from start bodies.now) }
     ensures range { IfOk result (λ x. All MessageRange x.items) }
 {
@@ -96,7 +104,12 @@ fn messages_of(alloc: Global, start: usize, bodies: &[Bytes]) -> Result<VecDeque
 
 /// What the host sees of an item.
 #[tactic(auto, unfolding(crate::specs::Hosts::host_item))]
-fn host_item(alloc: Global, here: &PubKey, inlets: &InletNames, item: Item) -> Result<Seen, ReadFaultOrMemory>
+fn host_item(
+    alloc: Global,
+    here: &PubKey,
+    inlets: &InletNames,
+    item: Item,
+) -> Result<Seen, ReadFaultOrMemory>
     ensures gives { Finds seen_of result (host_item here.now inlets.now item) }
     ensures range { IfOk result (λ seen. AreSeenInRange (seen_of seen)) }
 {

@@ -7,11 +7,11 @@ mod copying;
 mod entry;
 mod framing;
 mod lane_end;
-mod worker_entry;
 mod state;
+mod worker_entry;
 
 pub use batch::{BodyBatch, Waiting};
 pub use entry::{LaneAct, LaneEntry, LaneSegment};
 pub use lane_end::{LaneEnd, LaneFault};
-pub use worker_entry::{WorkerAct, WorkerEntry};
 pub use state::{LaneState, LiftEnd};
+pub use worker_entry::{WorkerAct, WorkerEntry};

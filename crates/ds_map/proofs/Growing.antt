@@ -7,8 +7,8 @@ use Rattle.ds_label.specs.declared.category.PubKey.{PubKey}
 use Rattle.ds_label.specs.declared.category.Category.{Category}
 use Rattle.ds_label.specs.Names.{same_category, by_name}
 use Rattle.ds_label.specs.Flow.{has, union}
-use Rattle.ds_model.specs.Mapping.{is_home, home_number, kind_number, kind_of, if_kind, row_of, is_known, number_of, to_number, to_name, with_row}
-use Rattle.ds_map.specs.Labels.{has_name, name_of, no_category, named, have_names}
+use Rattle.ds_model.specs.Mapping.{is_home, home_number, kind_number, kind_of, if_kind, row_of, is_known, to_number, to_name}
+use Rattle.ds_map.specs.Labels.{has_name, name_of, no_category, have_names}
 use Rattle.ds_map.specs.Growing.{IsGrown, GrowsSo}
 use Rattle.ds_map.proofs.Sets.{and_first, and_second}
 

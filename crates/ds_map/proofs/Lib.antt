@@ -4,3 +4,4 @@ pub mod Sets
 pub mod Bridge
 pub mod Numbers
 pub mod Growing
+pub mod Images

@@ -3,6 +3,7 @@
 #![tactic(auto)]
 
 mod fault;
+mod labels;
 mod laws;
 mod number;
 mod table;

@@ -94,6 +94,11 @@ impl MapTable {
         })
     }
 
+    /// The allocator that the table came with.
+    pub(crate) fn allocator(&self) -> Global {
+        *self.rows.allocator()
+    }
+
     /// The local number of a category; none where it is neither home nor in a row. Takes no memory.
     pub fn to_local(&self, name: &Category) -> Option<u64>
         ensures { result ≡ to_number self.now.here self.now.rows name.now }

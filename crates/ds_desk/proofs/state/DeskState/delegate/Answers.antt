@@ -61,3 +61,6 @@ returns-in-Ok-clause-kept g c =
     let all : kept_of c.issue.new.self ≡ entered c.args.stamp c.args.who (Delegated cert) k =
     after ∙ ap (λ (d : Delegation). entered c.args.stamp c.args.who (Delegated d) k) made in
     subst IsReplay (sym all) (grown k c.args.stamp c.args.who (Delegated cert) c.requires.kept c.requires.later (made_may k c.args.category c.args.to c.args.from c.args.until none))
+
+pub returns-in-Ok-clause-short : goal.returns-in-Ok-clause-short
+returns-in-Ok-clause-short g c = rw c.issue.ensures.spelling c.signed_of.ensures.size

@@ -1,0 +1,16 @@
+pub mod Cuts
+pub mod Least
+pub mod Members
+pub mod Items
+pub mod Different
+pub mod Judging
+pub mod Faults
+pub mod Known
+pub mod Labels
+pub mod Hosts
+pub mod Tests
+pub mod Whole
+pub mod Drafts
+pub mod Answered
+pub mod Heads
+pub mod Rooms

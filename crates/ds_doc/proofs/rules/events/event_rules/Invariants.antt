@@ -1,0 +1,6 @@
+use Rattle.std.proofs.Common.{◌≡◌, ◌++◌, [], take, map, flat_map, codes}
+use Rattle.ds_doc.specs.Rules.{event_rules}
+use Rattle.ds_doc.proofs.rules.events.event_rules.Given as goal
+
+abbrev pub invariant-loop-event : goal.invariant-loop-event
+invariant-loop-event l = l.faults.items ≡ l.initial.faults.items ++ flat_map (event_rules l.facts) (take l.event-index l.events)

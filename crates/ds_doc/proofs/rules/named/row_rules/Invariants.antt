@@ -1,0 +1,6 @@
+use Rattle.std.proofs.Common.{◌≡◌, ◌++◌, take, flat_map}
+use Rattle.ds_doc.specs.Rules.{row_rules}
+use Rattle.ds_doc.proofs.rules.named.row_rules.Given as goal
+
+abbrev pub invariant-loop-category : goal.invariant-loop-category
+invariant-loop-category l = l.faults.items ≡ l.initial.faults.items ++ flat_map (row_rules l.facts l.here) (take l.category-index l.rows)

@@ -1,0 +1,8 @@
+use Rattle.std.proofs.Common.{◌≡◌, ◌++◌, [], take, drop}
+use Rattle.ds_doc.specs.Rules.{repeats, same_secret, secret_place}
+use Rattle.ds_doc.proofs.rules.secrets.secrets.Given as goal
+
+abbrev pub invariant-loop-place : goal.invariant-loop-place
+invariant-loop-place l =
+    l.faults.items ++ repeats same_secret secret_place (take l.place l.hosts) (drop l.place l.hosts)
+    ≡ l.initial.faults.items ++ repeats same_secret secret_place [] l.hosts

@@ -1,0 +1,8 @@
+use Rattle.std.proofs.Common.{◌≡◌, ◌++◌, drop}
+use Rattle.ds_doc.specs.Rules.{each_place, repeated_in}
+use Rattle.ds_doc.proofs.rules.whole.repeated_in_each.Given as goal
+
+abbrev pub invariant-loop-here : goal.invariant-loop-here
+invariant-loop-here l =
+    l.faults.items ++ each_place (repeated_in l.facts) l.here (drop l.here l.hosts)
+    ≡ l.initial.faults.items ++ each_place (repeated_in l.facts) 0 l.hosts

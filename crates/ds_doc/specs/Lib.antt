@@ -1,0 +1,10 @@
+pub mod Places
+pub mod Seen
+pub mod Texts
+pub mod Forms
+pub mod Shapes
+pub mod Names
+pub mod Draft
+pub mod Rules
+pub mod Values
+pub mod Reading

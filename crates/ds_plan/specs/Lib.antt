@@ -1,0 +1,4 @@
+pub mod Keys
+pub mod Categories
+pub mod Signed
+pub mod Documents
