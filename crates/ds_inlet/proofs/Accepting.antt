@@ -1,5 +1,5 @@
 -- A connection reads on as the plain world accepts.
-use Rattle.std.proofs.Common.{◌≡◌, ℕ, zero, suc, ◌+◌, ◌-◌, Bool, true, false, List, [], ◌∷◌, ◌++◌, length, Option, Some, None, is_some, slice_get, drop, refl, sym, ap, ap₂, subst, ◌∙◌, append_assoc, length-append, arith}
+use Rattle.std.proofs.Common.{◌≡◌, ℕ, suc, ◌+◌, ◌-◌, Bool, true, false, List, [], ◌∷◌, ◌++◌, length, Option, Some, None, is_some, slice_get, drop, refl, sym, ap, ap₂, subst, ◌∙◌, append_assoc, length-append, arith}
 use Rattle.std.specs.Prelude.{Result, Ok, Err}
 use Rattle.std.proofs.lemmas.List.{append-nil}
 use Rattle.ds_label.specs.declared.category.PubKey.{PubKey}
@@ -20,23 +20,23 @@ use Rattle.ds_frame.specs.Checks.{read_item, read_hello, read_frame}
 use Rattle.ds_frame.specs.Reader.{Reader, Answer, lane_after, answer_of, next_unless, next_by}
 use Rattle.ds_frame.specs.Laws.{handed_by}
 use Rattle.ds_frame.specs.SoFar.{IsSoFar, ahead, ahead_unless, with_front}
-use Rattle.ds_frame.specs.Streams.{Stream, with_item, joined, read_on, stream_by}
+use Rattle.ds_frame.specs.Streams.{Stream, with_item, read_on, stream_by}
 use Rattle.ds_frame.proofs.Pieces.{so_far_new, so_far_fed, so_far_next, so_far_now, step_ok, step_err}
 use Rattle.ds_model.specs.Scheme.{Scheme, InletName, Item as Seen, Hello, Framed, Failure as SeenFailure}
 use Rattle.ds_model.specs.Plan.{HostPlan}
 use Rattle.ds_model.specs.World.{Conn}
-use Rattle.ds_model.specs.ConnectionStep.{ConnAsk, ConnWaits, ConnInternal, AsksInlet, hello_of, peer, take_frame, frame_from, fail, accept_item, accept_free, accept, fresh_frame, stale_frame}
+use Rattle.ds_model.specs.ConnectionStep.{ConnAsk, ConnInternal, AsksInlet, hello_of, peer, take_frame, frame_from, fail, accept_item, accept_free, accept, fresh_frame, stale_frame}
 use Rattle.ds_frame.specs.declared.item.ReadEnd.{ReadEnd}
 use Rattle.ds_frame.specs.declared.item.ReadEnd.TheVariants as ends
 use Rattle.ds_inlet.specs.declared.offer.Offer.{Offer}
 use Rattle.ds_inlet.specs.declared.offer.ConnEntry.{ConnEntry}
 use Rattle.ds_inlet.specs.declared.offer.ConnEntry.TheVariants as entries
-use Rattle.ds_inlet.specs.Hosts.{inlet_at, host_item, host_reading, seen_reading, seen_or_none, seen_of_items, seen_failure, items_of, ending_of}
+use Rattle.ds_inlet.specs.Hosts.{inlet_at, host_item, host_reading, seen_reading, seen_or_none, seen_of_items, seen_failure, items_of}
 use Rattle.ds_inlet.specs.Reads.{frame_read}
 use Rattle.ds_inlet.specs.OfferedFrames.{OfferedFrame}
 use Rattle.ds_inlet.specs.Connections.{Connection, Reads, ReadStep, HasInlet, read_past, frame_seen, seen_step, reading_step, step_unless_failed, step_unless_offered, read_step, settled_as, passed_from, refused_from, lane_inlet, lane_inlet_of, IsForInlet, place_or_0}
 use Rattle.ds_inlet.specs.PlainConnections.{plain_conn, taken_of, hellos_of, frames_of, taken_by}
-use Rattle.ds_inlet.specs.Accepting.{BeginsWith, IsFine, IsReadSoFar, StaysReadSoFar, inlet_scheme, inlet_plan, FailsOnce, Accepts, IsPlainAccept}
+use Rattle.ds_inlet.specs.Accepting.{BeginsWith, IsFine, IsReadSoFar, StaysReadSoFar, inlet_scheme, inlet_plan, Accepts, IsPlainAccept}
 use Rattle.ds_inlet.proofs.Steady.{steady_host}
 use Rattle.ds_inlet.proofs.Follows.{lane_seen, accords}
 use Rattle.ds_inlet.proofs.PlainCalls.{frames_push, plain_fresh, plain_stale}
@@ -112,6 +112,7 @@ module _ (here : PubKey) (inlets : List InletName) where
       see x e (Err stop) q = Stopped stop
           (read_by lane bytes ∙ (ap by_item e ∙ ap (λ (r : Result Seen ReadFault). r >>= λ (s : Seen). item_ok x) q))
           (seen_by lane bytes ∙ (ap by_seen e ∙ ap (λ (r : Result Seen ReadFault). r >>= λ (s : Seen). seen_ok (s, x.1)) q))
+
       go : (r : Result (Item × List ℕ) ReadFault) → read_item lane bytes ≡ r → Found here inlets lane bytes
       go (Ok x) e = see x e (host_item here inlets x.0) refl
       go (Err stop) e = Stopped stop (read_by lane bytes ∙ ap by_item e) (seen_by lane bytes ∙ ap by_seen e)
@@ -368,9 +369,9 @@ module _ (s : Scheme) (plan : HostPlan) (link : List ℕ) (k : Connection) (is :
   peer_offered lane known =
       let first : BeginsWith (Some lane) (seen_of_items k.here k.inlets is.handed) = subst (λ (l : Option LaneCert). BeginsWith l (seen_of_items k.here k.inlets is.handed)) known is.begins in
       ap (λ (xs : List Seen). hello_of (slice_get xs 0))
-        (ap (λ (u : Stream). seen_of_items k.here k.inlets u.items) (so_far_now (host_reading k.here k.inlets) (steady_host k.here k.inlets) k.arrived is.handed k.reader is.so_far)
-        ∙ (seen_append k.here k.inlets is.handed rest_ahead.items
-        ∙ ap (λ (xs : List Seen). xs ++ seen_of_items k.here k.inlets rest_ahead.items) first.1))
+      (ap (λ (u : Stream). seen_of_items k.here k.inlets u.items) (so_far_now (host_reading k.here k.inlets) (steady_host k.here k.inlets) k.arrived is.handed k.reader is.so_far)
+      ∙ (seen_append k.here k.inlets is.handed rest_ahead.items
+      ∙ ap (λ (xs : List Seen). xs ++ seen_of_items k.here k.inlets rest_ahead.items) first.1))
 
   fine_now : k.reader.failure ≡ None
   fine_now = subst (λ (x : Option OfferedFrame). IsFine x k.reader.failure) there is.fine
@@ -385,8 +386,8 @@ module _ (s : Scheme) (plan : HostPlan) (link : List ℕ) (k : Connection) (is :
       ∙ (ap (frame_from (inlet_plan plan k) y o.number o.messages) (peer_offered lane known)
       ∙ (ap (take_frame y o.number o.messages) seated
       ∙ ap₂ (λ (f g : Conn). AsksInlet o.inlet o.number f g)
-        (sym (subst (λ (x : Option OfferedFrame). plain_conn link None (settled_as true x k) ≡ fresh_frame y o.number o.messages) there (plain_fresh link None k o there)))
-        (sym (subst (λ (x : Option OfferedFrame). plain_conn link None (settled_as false x k) ≡ stale_frame y o.number) there (plain_stale link None k o there)))))
+      (sym (subst (λ (x : Option OfferedFrame). plain_conn link None (settled_as true x k) ≡ fresh_frame y o.number o.messages) there (plain_fresh link None k o there)))
+      (sym (subst (λ (x : Option OfferedFrame). plain_conn link None (settled_as false x k) ≡ stale_frame y o.number) there (plain_stale link None k o there)))))
 
 accepts_offered : (s : Scheme) (plan : HostPlan) (link : List ℕ) (k : Connection) (is : IsReadSoFar k) → HasInlet k.inlets k.reader.lane → (o : Option OfferedFrame) → k.offered ≡ o → IsForInlet (lane_inlet_of k.inlets k.reader.lane) o
     → Accepts link k.reader.failure (step_unless_offered o k).answer (step_unless_offered o k).conn (accept_free (inlet_scheme s) (inlet_plan plan k) (plain_conn link None k) k.arrived [] None (seen_failure k.reader.failure))
