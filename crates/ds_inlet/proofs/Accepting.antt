@@ -1,5 +1,5 @@
 -- A connection reads on as the plain world accepts.
-use Rattle.std.proofs.Common.{◌≡◌, ℕ, zero, suc, ◌+◌, ◌-◌, Bool, true, false, List, [], ◌∷◌, ◌++◌, length, Option, Some, None, is_some, slice_get, drop, refl, sym, ap, ap₂, subst, ◌∙◌, append_assoc, length-append, arith}
+use Rattle.std.proofs.Common.{◌≡◌, ℕ, suc, ◌+◌, ◌-◌, Bool, true, false, List, [], ◌∷◌, ◌++◌, length, Option, Some, None, is_some, slice_get, drop, refl, sym, ap, ap₂, subst, ◌∙◌, append_assoc, length-append, arith}
 use Rattle.std.specs.Prelude.{Result, Ok, Err}
 use Rattle.std.proofs.lemmas.List.{append-nil}
 use Rattle.ds_label.specs.declared.category.PubKey.{PubKey}
@@ -20,23 +20,23 @@ use Rattle.ds_frame.specs.Checks.{read_item, read_hello, read_frame}
 use Rattle.ds_frame.specs.Reader.{Reader, Answer, lane_after, answer_of, next_unless, next_by}
 use Rattle.ds_frame.specs.Laws.{handed_by}
 use Rattle.ds_frame.specs.SoFar.{IsSoFar, ahead, ahead_unless, with_front}
-use Rattle.ds_frame.specs.Streams.{Stream, with_item, joined, read_on, stream_by}
+use Rattle.ds_frame.specs.Streams.{Stream, with_item, read_on, stream_by}
 use Rattle.ds_frame.proofs.Pieces.{so_far_new, so_far_fed, so_far_next, so_far_now, step_ok, step_err}
 use Rattle.ds_model.specs.Scheme.{Scheme, InletName, Item as Seen, Hello, Framed, Failure as SeenFailure}
 use Rattle.ds_model.specs.Plan.{HostPlan}
 use Rattle.ds_model.specs.World.{Conn}
-use Rattle.ds_model.specs.ConnectionStep.{ConnAsk, ConnWaits, ConnInternal, AsksInlet, hello_of, peer, take_frame, frame_from, fail, accept_item, accept_free, accept, fresh_frame, stale_frame}
+use Rattle.ds_model.specs.ConnectionStep.{ConnAsk, ConnInternal, AsksInlet, hello_of, peer, take_frame, frame_from, fail, accept_item, accept_free, accept, fresh_frame, stale_frame}
 use Rattle.ds_frame.specs.declared.item.ReadEnd.{ReadEnd}
 use Rattle.ds_frame.specs.declared.item.ReadEnd.TheVariants as ends
 use Rattle.ds_inlet.specs.declared.offer.Offer.{Offer}
 use Rattle.ds_inlet.specs.declared.offer.ConnEntry.{ConnEntry}
 use Rattle.ds_inlet.specs.declared.offer.ConnEntry.TheVariants as entries
-use Rattle.ds_inlet.specs.Hosts.{inlet_at, host_item, host_reading, seen_reading, seen_or_none, seen_of_items, seen_failure, items_of, ending_of}
+use Rattle.ds_inlet.specs.Hosts.{inlet_at, host_item, host_reading, seen_reading, seen_or_none, seen_of_items, seen_failure, items_of}
 use Rattle.ds_inlet.specs.Reads.{frame_read}
 use Rattle.ds_inlet.specs.OfferedFrames.{OfferedFrame}
 use Rattle.ds_inlet.specs.Connections.{Connection, Reads, ReadStep, HasInlet, read_past, frame_seen, seen_step, reading_step, step_unless_failed, step_unless_offered, read_step, settled_as, passed_from, refused_from, lane_inlet, lane_inlet_of, IsForInlet, place_or_0}
 use Rattle.ds_inlet.specs.PlainConnections.{plain_conn, taken_of, hellos_of, frames_of, taken_by}
-use Rattle.ds_inlet.specs.Accepting.{BeginsWith, IsFine, IsReadSoFar, StaysReadSoFar, inlet_scheme, inlet_plan, FailsOnce, Accepts, IsPlainAccept}
+use Rattle.ds_inlet.specs.Accepting.{BeginsWith, IsFine, IsReadSoFar, StaysReadSoFar, inlet_scheme, inlet_plan, Accepts, IsPlainAccept}
 use Rattle.ds_inlet.proofs.Steady.{steady_host}
 use Rattle.ds_inlet.proofs.Follows.{lane_seen, accords}
 use Rattle.ds_inlet.proofs.PlainCalls.{frames_push, plain_fresh, plain_stale}

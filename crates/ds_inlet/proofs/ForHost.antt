@@ -1,6 +1,6 @@
 -- What a host sees is for it: the lane of a hello has an inlet, and a frame comes after a hello.
 use Rattle.std.proofs.Common.{◌≡◌, ℕ, true, List, Option, Some, None, refl, subst}
-use Rattle.std.specs.Prelude.{Result, Ok, Err, is_some}
+use Rattle.std.specs.Prelude.{Result, Ok, is_some}
 use Rattle.ds_label.specs.declared.category.PubKey.{PubKey}
 use Rattle.ds_cert.specs.declared.lane.LaneCert.{LaneCert}
 use Rattle.ds_cert.proofs.Steps.{bind_ok, guard_ok, ok_is}

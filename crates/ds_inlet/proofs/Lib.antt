@@ -5,3 +5,4 @@ pub mod Follows
 pub mod ForHost
 pub mod PlainCalls
 pub mod Accepting
+pub mod Places

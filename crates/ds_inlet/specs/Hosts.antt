@@ -12,6 +12,7 @@ use Rattle.ds_frame.specs.declared.item.Failure.{Failure}
 use Rattle.ds_frame.specs.Causes.{cause_number}
 use Rattle.ds_frame.specs.Fields.{ReadFault, Broken}
 use Rattle.ds_frame.specs.Checks.{read_item}
+use Rattle.ds_frame.specs.Ranges.{BodiesRange}
 use Rattle.ds_frame.specs.Reader.{Reading}
 use Rattle.ds_frame.specs.Streams.{stream_by}
 use Rattle.ds_model.specs.Keys.{same_key}
@@ -43,6 +44,11 @@ messages_from place (bytes ∷ later) = do
   message ← message_or (place + 4) (read_message bytes)
   messages ← messages_from (place + 4 + length bytes) later
   Ok (message ∷ messages)
+
+-- a frame's messages are in range
+abbrev pub IsItemInRange : Item → Type 0
+IsItemInRange (items.Hello lane) = Unit {0}
+IsItemInRange (items.Frame frame) = BodiesRange frame.bodies
 
 -- What the host sees of an item. A frame's body stands 11 bytes behind the frame's first.
 unfoldable pub host_item : PubKey → List InletName → Item → Result Seen ReadFault

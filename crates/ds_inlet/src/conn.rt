@@ -325,14 +325,12 @@ impl Conn {
 
     /// Fails at that many bytes behind the front, for ever.
     fn fail(&mut self, cause: Cause, offset: usize) -> ReadEnd
+        requires among { offset ≤ length self.old.conn.reader.rest }
         requires so_far { IsReadSoFar (record self.old.conn { reader = record self.old.conn.reader { failure = Some (record { cause = cause; place = self.old.conn.reader.passed + offset }) } }) }
         ensures end { Fails self.old.conn cause offset result self.new.conn }
         ensures room { (self.new.spare ≡ self.old.spare) × (self.new.space ≡ self.old.space) }
     {
-        let Some(place) = self.at.checked_add(offset) else {
-            return ReadEnd::NoMemory;
-        };
-        let place = place as u64;
+        let place = (self.at + offset) as u64;
         self.failure = Some(Failure { cause, place });
         ReadEnd::BadFrame(cause, place)
     }

@@ -24,4 +24,4 @@ pub struct InletEntry {
 }
 
 /// A history that was handed out: its entries, in order.
-pub type InletSegment = Vec<InletEntry>;
+pub type InletHistory = Vec<InletEntry>;

@@ -5,8 +5,9 @@ ghost use Rattle.std.specs.List.{All};
 ghost use Rattle.ds_msg.specs.Ranges.{MessageRange};
 ghost use Rattle.ds_msg.specs.Reading.{read_message};
 ghost use Rattle.ds_frame.specs.Fields.{Finds, IsAmong};
+ghost use Rattle.ds_frame.specs.Ranges.{BodiesRange};
 ghost use Rattle.ds_model.specs.Keys.{same_key};
-ghost use Rattle.ds_inlet.specs.Hosts.{admitted, message_or, messages_from, host_item, seen_reading};
+ghost use Rattle.ds_inlet.specs.Hosts.{IsItemInRange, admitted, message_or, messages_from, host_item, seen_reading};
 ghost use Rattle.ds_inlet.specs.Connections.{AreSeenInRange, IsForHost};
 ghost use Rattle.ds_inlet.specs.ItemInside.{seen_of};
 
@@ -64,13 +65,6 @@ fn message_at(alloc: Global, place: usize, bytes: &[u8]) -> Result<Message, Read
     }
 }
 
-/// The place behind a message of that many bytes, whose count stands at that place; none where no number tells it.
-fn place_behind(place: usize, size: usize) -> Option<usize>
-    ensures { IfSome result (λ n. n ≡ place + 4 + size) }
-{
-    place.checked_add(4)?.checked_add(size)
-}
-
 /// Appends a message. `AllocError` where memory runs out.
 fn append(messages: &mut VecDeque<Message>, message: Message) -> Result<(), AllocError>
     ensures { OnOk result (messages.new.items ≡ messages.old.items ++ message ∷ []) }
@@ -79,25 +73,24 @@ fn append(messages: &mut VecDeque<Message>, message: Message) -> Result<(), Allo
     Ok(())
 }
 
-/// The messages that these bytes spell. The first one's count stands at that place.
+/// The messages that these bytes spell, 16 at most and not too long. The first one's count stands at that place.
 #[tactic(auto, using(crate::proofs::Messages::one_more))]
 fn messages_of(
     alloc: Global,
     start: usize,
     bodies: &[Bytes],
 ) -> Result<VecDeque<Message>, ReadFaultOrMemory>
+    requires start { start ≤ 11 }
+    requires range { BodiesRange bodies.now }
     ensures gives { Finds (λ x. x.items) result (messages_from start bodies.now) }
     ensures range { IfOk result (λ x. All MessageRange x.items) }
 {
     let mut messages = VecDeque::with_capacity(alloc, bodies.len())?;
     let mut place = start;
     for bytes in bodies {
-        let Some(next) = place_behind(place, bytes.len()) else {
-            return Err(ReadFaultOrMemory::NoMemory);
-        };
         let message = message_at(alloc, place + 4, bytes.as_slice())?;
         append(&mut messages, message)?;
-        place = next;
+        place += 4 + bytes.len();
     }
     Ok(messages)
 }
@@ -110,6 +103,7 @@ fn host_item(
     inlets: &InletNames,
     item: Item,
 ) -> Result<Seen, ReadFaultOrMemory>
+    requires { IsItemInRange item }
     ensures gives { Finds seen_of result (host_item here.now inlets.now item) }
     ensures range { IfOk result (λ seen. AreSeenInRange (seen_of seen)) }
 {
@@ -138,6 +132,7 @@ pub(crate) fn seen_reading(
     ensures size { IfOk result (λ x. x.1 ≤ length bytes.now) }
     ensures range { IfOk result (λ x. AreSeenInRange (seen_of x.0)) }
     ensures host { IfOk result (λ x. IsForHost inlets.now lane.now (seen_of x.0)) }
+    ensures among { IsAmong (length bytes.now) result }
 {
     let (item, size) = item_of(alloc, lane, bytes)?;
     let seen = host_item(alloc, here, inlets, item)?;

@@ -10,7 +10,7 @@ mod offer;
 mod state;
 
 pub use conn::Conn;
-pub use entry::{InletAct, InletEntry, InletSegment};
+pub use entry::{InletAct, InletEntry, InletHistory};
 pub use laws::{
     connections_accept_as_the_plain_world, connections_act_as_the_plain_world,
     connections_read_the_stream, pieces_make_no_difference,

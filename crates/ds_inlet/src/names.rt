@@ -1,6 +1,6 @@
 //! The names of a host's inlets.
 
-ghost use Rattle.std.specs.Prelude.{◌≡◌, ◌<◌, ◌-◌, ◌^◌, ◌++◌, [], ◌∷◌, length, IfSome, OnOk, OnErr};
+ghost use Rattle.std.specs.Prelude.{◌≡◌, ◌<◌, ◌-◌, ◌^◌, ◌++◌, [], ◌∷◌, length, option_copied, slice_get, IfOk, IfSome, OnOk, OnErr};
 ghost use Rattle.ds_inlet.specs.Hosts.{inlet_at};
 
 use ds_cert::LaneCert;
@@ -23,6 +23,18 @@ impl Model for InletName {
     ghost Value = { Name };
 
     ghost view = { λ n. record { exporter = n.exporter; lane = n.lane } };
+}
+
+impl InletName {
+    /// An equal name. Takes no memory.
+    fn copy(&self) -> InletName
+        ensures { result ≡ self.now }
+    {
+        InletName {
+            exporter: self.exporter,
+            lane: self.lane,
+        }
+    }
 }
 
 /// The names of a host's inlets, in their order: fewer than `2^32`. Contracts see the list.
@@ -60,6 +72,23 @@ impl InletNames {
         self.names.len()
     }
 
+    /// The name at a place, from 0.
+    pub fn get(&self, place: usize) -> Option<&InletName>
+        ensures { option_copied result ≡ slice_get self.now place }
+    {
+        self.names.get(place)
+    }
+
+    /// An equal list. `AllocError` where memory runs out.
+    pub fn copy(&self) -> Result<InletNames, AllocError>
+        ensures { IfOk result (λ names. names ≡ self.now) }
+    {
+        let _fewer = self.len();
+        Ok(InletNames {
+            names: copies_of(*self.names.allocator(), self.names.as_slice())?,
+        })
+    }
+
     /// Appends one. After `AllocError`, which says that memory ran out, nothing changed.
     pub fn push(&mut self, name: InletName) -> Result<(), AllocError>
         requires { length self.old < 2 ^ 32 - 1 }
@@ -78,6 +107,17 @@ impl InletNames {
         let place = place_of(&self.names, lane)?;
         Some(place as u32)
     }
+}
+
+/// Equal names. `AllocError` where memory runs out.
+fn copies_of(alloc: Global, names: &[InletName]) -> Result<Vec<InletName>, AllocError>
+    ensures { IfOk result (λ copies. copies.items ≡ names.now) }
+{
+    let mut copies = Vec::with_capacity(alloc, names.len())?;
+    for name in names {
+        copies.push(name.copy())?;
+    }
+    Ok(copies)
 }
 
 /// The place of the name for a lane.

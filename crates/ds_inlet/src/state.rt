@@ -5,7 +5,7 @@ ghost use Rattle.std.specs.Prelude.{◌≡◌, ◌<◌, nat_lt, false, true, IfO
 ghost use Rattle.ds_model.specs.Inlet.{is_fresh, number_entry};
 ghost use Rattle.ds_inlet.specs.Inlets.{IsReplay, last_stamp, entered, checkpointed, fresh_inlet};
 
-use crate::entry::{InletAct, InletEntry, InletSegment};
+use crate::entry::{InletAct, InletEntry, InletHistory};
 use ds_label::PubKey;
 use ds_script::Actor;
 use std::alloc::{AllocError, Global};
@@ -162,7 +162,7 @@ impl Inlet {
     }
 
     /// Hands out the history, and makes the present state the opening. It takes no memory.
-    pub fn checkpoint(&mut self) -> InletSegment
+    pub fn checkpoint(&mut self) -> InletHistory
         ensures segment { result.items ≡ self.old.inlet.history }
         ensures state { self.new.inlet ≡ checkpointed self.old.inlet }
     {

@@ -1,4 +1,4 @@
-use Rattle.std.proofs.Common.{arith, subst, sym, List, []}
+use Rattle.std.proofs.Common.{arith, subst, sym, List}
 use Rattle.std.specs.List.{All}
 use Rattle.std.proofs.lemmas.Grind.{common_steps}
 use Rattle.ds_msg.specs.Ranges.{MessageRange}

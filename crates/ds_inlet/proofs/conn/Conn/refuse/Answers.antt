@@ -1,4 +1,4 @@
-use Rattle.std.proofs.Common.{refl, Some}
+use Rattle.std.proofs.Common.{refl}
 use Rattle.ds_inlet.specs.declared.offer.ConnEntry.TheVariants as entries
 use Rattle.ds_inlet.specs.ConnInside.{connection_of}
 use Rattle.ds_inlet.proofs.Accepting.{judged_kept}

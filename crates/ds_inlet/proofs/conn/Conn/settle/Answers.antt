@@ -1,6 +1,4 @@
-use Rattle.std.proofs.Common.{◌≡◌, Option, Some, None, List, refl, sym, ap, subst, ◌∙◌}
-use Rattle.std.specs.List.{All}
-use Rattle.ds_msg.specs.Ranges.{MessageRange}
+use Rattle.std.proofs.Common.{Option, Some, refl, sym, ap, subst, ◌∙◌}
 use Rattle.ds_inlet.specs.declared.offer.ConnEntry.TheVariants as entries
 use Rattle.ds_inlet.specs.OfferedFrames.{OfferedFrame}
 use Rattle.ds_inlet.specs.Connections.{IsForInlet, AreOfferedInRange, lane_inlet_of}
