@@ -1,5 +1,5 @@
 -- What reading answers is a document.
-use Rattle.std.proofs.Common.{◌≡◌, ℕ, List, [], ◌∷◌, map, Bool, true, false, Option, Some, None, Result, Ok, Err, refl, sym, ap, ◌∙◌, subst, IfOk, if◌then◌else◌}
+use Rattle.std.proofs.Common.{◌≡◌, ℕ, List, [], ◌∷◌, map, Bool, true, false, Option, Some, None, Result, Ok, Err, refl, ap, ◌∙◌, subst, IfOk, if◌then◌else◌}
 use Rattle.serde_json.specs.Data.{Data}
 use Rattle.ds_label.specs.declared.category.PubKey.{PubKey}
 use Rattle.ds_plan.specs.declared.doc.Doc.{Doc}

@@ -1,9 +1,8 @@
 -- What is read keeps its limits.
-use Rattle.std.proofs.Common.{◌≡◌, ◌<◌, ◌≤◌, ℕ, zero, suc, ◌+◌, ◌-◌, ◌^◌, min, max, List, [], ◌∷◌, ◌++◌, length, map, flat_map, take, replicate, codes, slice_get, Bool, true, false, ◌&&◌, ◌||◌, not, nat_le, nat_lt, nat_eq, Option, Some, None, option_map, Result, Ok, Err, refl, sym, ap, ◌∙◌, subst, arith, if◌then◌else◌}
+use Rattle.std.proofs.Common.{◌≡◌, ◌≤◌, ℕ, zero, suc, ◌-◌, ◌^◌, min, max, List, [], ◌∷◌, ◌++◌, length, map, flat_map, take, replicate, codes, slice_get, Bool, true, false, ◌||◌, not, nat_le, nat_lt, nat_eq, Option, Some, None, option_map, Result, Ok, Err, refl, sym, subst, arith, if◌then◌else◌}
 use Rattle.std.specs.List.{list_all, list_any}
 use Rattle.std.proofs.lemmas.List.{length-map, length-take, length-append}
-use Rattle.std.proofs.lemmas.Bool.{and_from, lt-ltb, le-leb, leb-true, leb-false}
-use Rattle.std.proofs.lemmas.Bool.Decides.{nat_tests}
+use Rattle.std.proofs.lemmas.Bool.{and_from, lt-ltb, le-leb, leb-false}
 use Rattle.hex.specs.Hex as hex
 use Rattle.ds_cert.specs.declared.cert.Cert.{Cert}
 use Rattle.ds_cert.specs.Reading.{read_cert}
@@ -12,18 +11,14 @@ use Rattle.ds_plan.specs.declared.host.Secret.{Secret}
 use Rattle.ds_doc.specs.declared.draft.Placed.{Placed}
 use Rattle.ds_doc.specs.declared.draft.CategoryName.{CategoryName}
 use Rattle.ds_doc.specs.declared.draft.DraftOp.{DraftOp}
-use Rattle.ds_doc.specs.declared.draft.DraftOp.TheVariants as ops
-use Rattle.ds_doc.specs.declared.draft.DraftHost.{DraftHost}
-use Rattle.ds_doc.specs.declared.draft.DraftCert.{DraftCert}
 use Rattle.ds_doc.specs.declared.draft.DraftCert.TheVariants as certs
-use Rattle.ds_doc.specs.declared.draft.DraftEvent.{DraftEvent}
 use Rattle.ds_doc.specs.Places.{Spot, same_text, items, member, member_items, member_number, text, or_default}
 use Rattle.ds_doc.specs.Names.{or_empty}
 use Rattle.ds_doc.specs.Rules.{or_none}
 use Rattle.ds_doc.specs.Values.{address}
 use Rattle.ds_doc.specs.Draft as drafts
 use Rattle.ds_doc.specs.Draft.{same_value, with_one, with_each, set_of, nearest, draft_of, draft_by, host_of}
-use Rattle.ds_doc.proofs.Faults.{and_first, and_second, all_map, all_flat}
+use Rattle.ds_doc.proofs.Faults.{and_first, and_second, all_flat}
 use Rattle.ds_doc.proofs.Hosts.{HostLimits, reg_fits, op_limits, proc_limits, box_limits, lane_limits, inlet_limits}
 use Rattle.ds_doc.proofs.Whole.{Limits, cert_limits}
 

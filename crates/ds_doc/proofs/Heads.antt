@@ -1,5 +1,5 @@
 -- The first bytes of a running host's key, and its signatures.
-use Rattle.std.proofs.Common.{◌≡◌, ◌≤◌, ℕ, zero, suc, ◌+◌, ◌*◌, List, [], ◌∷◌, ◌++◌, length, take, Bool, true, ◌&&◌, nat_le, refl, sym, ap, ◌∙◌, subst, arith}
+use Rattle.std.proofs.Common.{◌≡◌, ◌≤◌, ℕ, zero, suc, List, [], ◌∷◌, ◌++◌, length, take, true, nat_le, refl, sym, ap, ◌∙◌, subst, arith}
 use Rattle.std.specs.Int.{w32, to_be_bytes}
 use Rattle.std.proofs.lemmas.List.{length-append, length-take}
 use Rattle.std.proofs.lemmas.Bool.{and_from, le-leb}
@@ -22,9 +22,12 @@ take_front (suc n) [] ys e = absurd (omega (arith, e))
 take_front zero (x ∷ xs) ys e = absurd (omega (arith, e))
 take_front (suc n) (x ∷ xs) ys e = ap (λ zs. x ∷ zs) (take_front n xs ys (omega (arith, e)))
 
+sixteen : (m : List ℕ) → length m ≡ 32 → length (take 16 m) ≡ 16
+sixteen m size = omega (arith, size, length-take 16 m)
+
 id_length : (secret : List ℕ) (index : ℕ) → length (derived_id secret index) ≡ 16
 unfolding derived_id
-id_length secret index = omega (arith, length-take 16 (Rattle.sha2.specs.Sha256.sha256 _), length-sha256 _)
+id_length secret index = sixteen _ (length-sha256 _)
 
 head_is : (identity : Params) (seed id : List ℕ) → length id ≡ 16 → take 24 (public_key identity seed id) ≡ u32str (lms_code identity.lms) ++ u32str (ots_code identity.ots) ++ id
 unfolding public_key

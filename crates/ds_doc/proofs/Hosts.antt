@@ -1,10 +1,9 @@
 -- A host whose rules are kept is a host of a document.
-use Rattle.std.proofs.Common.{◌≡◌, ◌<◌, ◌≤◌, ℕ, zero, suc, ◌+◌, ◌-◌, ◌*◌, ◌^◌, List, [], ◌∷◌, ◌++◌, length, map, flat_map, slice_get, All, Bool, true, false, ◌&&◌, ◌||◌, not, ◌==◌, nat_le, nat_lt, nat_eq, Option, Some, None, option_map, is_some, refl, sym, ap, ◌∙◌, subst, arith}
-use Rattle.std.specs.List.{list_all, list_any}
+use Rattle.std.proofs.Common.{◌≡◌, ◌≤◌, ℕ, ◌^◌, List, [], ◌∷◌, ◌++◌, length, map, flat_map, slice_get, All, Bool, true, false, ◌&&◌, ◌||◌, not, ◌==◌, nat_le, nat_lt, nat_eq, Some, refl, sym, subst, arith}
+use Rattle.std.specs.List.{list_all}
 use Rattle.std.proofs.lemmas.List.{length-map}
 use Rattle.std.proofs.lemmas.List.Elements.{All-nil, All-cons}
-use Rattle.std.proofs.lemmas.List.Folds.{list_all-map}
-use Rattle.std.proofs.lemmas.Bool.{and_from, ltb-true, lt-ltb, leb-true, le-leb, or_left, or_right}
+use Rattle.std.proofs.lemmas.Bool.{and_from, ltb-true, leb-true, or_left, or_right}
 use Rattle.std.proofs.lemmas.Bool.Decides.{nat_tests}
 use Rattle.ds_label.specs.declared.category.PubKey.{PubKey}
 use Rattle.ds_label.specs.declared.category.Category.{Category}
@@ -12,16 +11,14 @@ use Rattle.ds_label.specs.Flow.{has}
 use Rattle.ds_label.specs.Names.{by_name}
 use Rattle.ds_label.proofs.Namings.{names}
 use Rattle.ds_label.proofs.Members.{same-is}
-use Rattle.ds_script.specs.Fits.{IsOp, IsScript}
+use Rattle.ds_script.specs.Fits.{IsScript}
 use Rattle.ds_plan.specs.declared.host.HostSpec.{HostSpec}
-use Rattle.ds_plan.specs.declared.maker.Maker.{Maker}
 use Rattle.ds_plan.specs.Keys.{same_key}
 use Rattle.ds_plan.specs.Keys as plan_keys
 use Rattle.ds_plan.specs.Categories.{origin, is_known, is_made}
 use Rattle.ds_plan.specs.Documents as plan
 use Rattle.ds_plan.specs.Documents.{stood, are_new, are_different, is_between, has_at_most, is_name, has_secret_length, is_address_if_some, HasLabels, IsLabel}
 use Rattle.ds_doc.specs.declared.draft.Placed.{Placed}
-use Rattle.ds_doc.specs.declared.draft.HostName.{HostName}
 use Rattle.ds_doc.specs.declared.draft.CategoryName.{CategoryName}
 use Rattle.ds_doc.specs.declared.draft.DraftOp.{DraftOp}
 use Rattle.ds_doc.specs.declared.draft.DraftOp.TheVariants as ops
@@ -30,16 +27,13 @@ use Rattle.ds_doc.specs.declared.draft.DraftBox.{DraftBox}
 use Rattle.ds_doc.specs.declared.draft.DraftLane.{DraftLane}
 use Rattle.ds_doc.specs.declared.draft.DraftInlet.{DraftInlet}
 use Rattle.ds_doc.specs.declared.draft.DraftHost.{DraftHost}
-use Rattle.ds_doc.specs.declared.fault.Fault.{Fault}
 use Rattle.ds_doc.specs.declared.rules.facts.Facts.{Facts}
 use Rattle.ds_doc.specs.Names.{number_of, same_host, origin_of, same_named, or_empty}
 use Rattle.ds_doc.specs.Draft.{same_value}
-use Rattle.ds_doc.specs.Shapes.{unless}
 use Rattle.ds_doc.specs.Rules as rules
-use Rattle.ds_doc.specs.Values.{category, category_of, label, op, process, mailbox, lane, inlet, host, address}
-use Rattle.ds_doc.specs.Values as values
-use Rattle.ds_doc.proofs.Faults.{and_first, and_second, kept, front_kept, rest_kept, each_kept, all_map, all_more, all_both, all_append, all_flat, repeats_new, new_map}
-use Rattle.ds_doc.proofs.Known.{known_doc, known_within, known_number, known_process, origin_kept, one_category, one_host, home_key, other_key, named_same}
+use Rattle.ds_doc.specs.Values.{category_of, label, process, mailbox, lane, inlet, host, address}
+use Rattle.ds_doc.proofs.Faults.{and_first, and_second, kept, front_kept, rest_kept, each_kept, all_map, all_more, all_append, all_flat, repeats_new, new_map}
+use Rattle.ds_doc.proofs.Known.{known_doc, origin_kept, one_host, home_key, named_same}
 use Rattle.ds_doc.proofs.Labels.{label_all, label_is, one_label}
 
 -- ---- limits of what was read

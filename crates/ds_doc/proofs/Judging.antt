@@ -1,5 +1,5 @@
 -- One item more that is judged.
-use Rattle.std.proofs.Common.{◌≡◌, ℕ, List, ◌∷◌, Option, refl}
+use Rattle.std.proofs.Common.{◌≡◌, ℕ, List, ◌∷◌, Option}
 use Rattle.serde_json.specs.Data.{Data, Items, item}
 use Rattle.ds_doc.specs.declared.fault.Fault.{Fault}
 use Rattle.ds_doc.specs.declared.form.Form.{Form}

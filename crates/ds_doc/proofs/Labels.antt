@@ -1,5 +1,5 @@
 -- Labels of known categories.
-use Rattle.std.proofs.Common.{◌≡◌, ◌<◌, ◌≤◌, ℕ, zero, suc, ◌+◌, List, [], ◌∷◌, ◌++◌, length, Bool, true, false, ◌&&◌, ◌||◌, nat_le, refl, sym, ap, ◌∙◌, subst, arith, if◌then◌else◌}
+use Rattle.std.proofs.Common.{◌≡◌, ◌≤◌, suc, ◌+◌, List, [], ◌∷◌, ◌++◌, length, Bool, true, false, ◌&&◌, ◌||◌, nat_le, refl, sym, ap, ◌∙◌, subst, arith, if◌then◌else◌}
 use Rattle.std.specs.List.{list_all, list_any}
 use Rattle.std.specs.declared.cmp.Ordering.{Ordering}
 use Rattle.std.specs.declared.cmp.Ordering.TheVariants.{Less, Equal, Greater}
@@ -19,7 +19,7 @@ use Rattle.ds_doc.specs.declared.draft.CategoryName.{CategoryName}
 use Rattle.ds_doc.specs.Names.{origin_of, same_named}
 use Rattle.ds_doc.specs.Draft.{same_value}
 use Rattle.ds_doc.specs.Rules.{has_each}
-use Rattle.ds_doc.specs.Values.{category, category_of, joined, joined_each, label}
+use Rattle.ds_doc.specs.Values.{category_of, joined, joined_each, label}
 use Rattle.ds_doc.proofs.Faults.{and_first, and_second}
 use Rattle.ds_doc.proofs.Known.{one_category}
 

@@ -1,8 +1,8 @@
 -- The least fault of two lists.
-use Rattle.std.proofs.Common.{◌≡◌, ℕ, ◌<◌, ◌≤◌, List, [], ◌∷◌, ◌++◌, Option, Some, None, Bool, true, false, nat_lt, ◌==◌, if◌then◌else◌, arith, rules, refl, sym, ap, ◌∙◌}
+use Rattle.std.proofs.Common.{◌≡◌, List, [], ◌∷◌, ◌++◌, Option, Some, None, arith, refl, sym}
 use Rattle.std.proofs.lemmas.Bool.Decides.{nat_tests}
 use Rattle.ds_doc.specs.declared.fault.Fault.{Fault}
-use Rattle.ds_doc.specs.Shapes.{is_before, lesser, least}
+use Rattle.ds_doc.specs.Shapes.{lesser, least}
 
 lesser_assoc : (f g h : Fault) → lesser (lesser (Some f) (Some g)) (Some h) ≡ lesser (Some f) (lesser (Some g) (Some h))
 lesser_assoc f g h = grind (arith, nat_tests)

@@ -1,5 +1,5 @@
 -- Whether an object has a member of a name.
-use Rattle.std.proofs.Common.{◌≡◌, List, [], ◌∷◌, ℕ, Bool, ◌||◌, ◌&&◌, map, refl, ap, Bor, String, Global, string_bytes}
+use Rattle.std.proofs.Common.{◌≡◌, List, [], ◌∷◌, ℕ, ◌||◌, ◌&&◌, map, refl, ap, Bor, String, Global, string_bytes}
 use Rattle.std.specs.List.{list_all, list_any}
 use Rattle.serde_json.specs.declared.value.Value.{Value}
 use Rattle.serde_json.specs.Data.{Members}

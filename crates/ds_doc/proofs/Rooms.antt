@@ -1,6 +1,5 @@
 -- Where there are few address certificates, each host has room.
-use Rattle.std.proofs.Common.{◌≡◌, ◌≤◌, ℕ, suc, ◌+◌, List, [], ◌∷◌, ◌++◌, length, flat_map, bytes_eq, Bool, true, false, Option, Some, None, refl, sym, ap, ◌∙◌, subst, arith, if◌then◌else◌}
-use Rattle.std.proofs.lemmas.List.{length-append}
+use Rattle.std.proofs.Common.{◌≡◌, ◌≤◌, ℕ, suc, ◌+◌, List, [], ◌∷◌, ◌++◌, length, flat_map, bytes_eq, Bool, true, false, None, refl, arith, if◌then◌else◌}
 use Rattle.std.proofs.lemmas.Bool.{le-leb}
 use Rattle.ds_plan.specs.Documents.{each_once, has_at_most, is_among, is_silent}
 use Rattle.ds_doc.specs.declared.fault.Fault.{Fault}

@@ -1,48 +1,37 @@
 -- The tests of a host whose rules are kept.
-use Rattle.std.proofs.Common.{◌≡◌, ◌<◌, ◌≤◌, ℕ, zero, suc, ◌+◌, ◌-◌, ◌*◌, ◌^◌, List, [], ◌∷◌, ◌++◌, length, map, flat_map, slice_get, All, Bool, true, false, ◌&&◌, ◌||◌, not, ◌==◌, nat_le, nat_lt, nat_eq, Option, Some, None, option_map, is_some, refl, sym, ap, ◌∙◌, subst, arith}
-use Rattle.std.specs.List.{list_all, list_any}
+use Rattle.std.proofs.Common.{◌≡◌, ◌<◌, ◌≤◌, ℕ, ◌^◌, List, [], ◌∷◌, ◌++◌, length, map, flat_map, slice_get, All, Bool, true, false, ◌||◌, not, nat_le, nat_lt, nat_eq, Option, Some, None, is_some, refl, sym, subst, arith}
+use Rattle.std.specs.List.{list_all}
 use Rattle.std.proofs.lemmas.List.{length-map}
 use Rattle.std.proofs.lemmas.List.Elements.{All-nil, All-cons}
-use Rattle.std.proofs.lemmas.List.Folds.{list_all-map}
-use Rattle.std.proofs.lemmas.Bool.{and_from, ltb-true, lt-ltb, leb-true, le-leb, or_left, or_right}
-use Rattle.std.proofs.lemmas.Bool.Decides.{nat_tests}
+use Rattle.std.proofs.lemmas.Bool.{and_from, ltb-true, leb-true, or_left, or_right}
 use Rattle.ds_label.specs.declared.category.PubKey.{PubKey}
 use Rattle.ds_label.specs.declared.category.Category.{Category}
-use Rattle.ds_label.specs.Flow.{has}
 use Rattle.ds_label.specs.Names.{by_name}
 use Rattle.ds_label.proofs.Namings.{names}
-use Rattle.ds_label.proofs.Members.{same-is}
-use Rattle.ds_script.specs.declared.op.Op.{Op}
 use Rattle.ds_script.specs.Fits.{IsOp, IsScript}
-use Rattle.ds_plan.specs.declared.host.HostSpec.{HostSpec}
-use Rattle.ds_plan.specs.declared.maker.Maker.{Maker}
 use Rattle.ds_plan.specs.Keys.{same_key}
 use Rattle.ds_plan.specs.Keys as plan_keys
 use Rattle.ds_plan.specs.Categories.{origin, is_known, is_made}
 use Rattle.ds_plan.specs.Documents as plan
 use Rattle.ds_plan.specs.Documents.{stood, are_new, are_different, is_between, has_at_most, is_name, has_secret_length, is_address_if_some, HasLabels, IsLabel}
 use Rattle.ds_doc.specs.declared.draft.Placed.{Placed}
-use Rattle.ds_doc.specs.declared.draft.HostName.{HostName}
 use Rattle.ds_doc.specs.declared.draft.CategoryName.{CategoryName}
 use Rattle.ds_doc.specs.declared.draft.DraftOp.{DraftOp}
 use Rattle.ds_doc.specs.declared.draft.DraftOp.TheVariants as ops
 use Rattle.ds_doc.specs.declared.draft.DraftProc.{DraftProc}
 use Rattle.ds_doc.specs.declared.draft.DraftBox.{DraftBox}
 use Rattle.ds_doc.specs.declared.draft.DraftLane.{DraftLane}
-use Rattle.ds_doc.specs.declared.draft.DraftInlet.{DraftInlet}
 use Rattle.ds_doc.specs.declared.draft.DraftHost.{DraftHost}
-use Rattle.ds_doc.specs.declared.fault.Fault.{Fault}
 use Rattle.ds_doc.specs.declared.rules.facts.Facts.{Facts}
-use Rattle.ds_doc.specs.Names.{number_of, same_host, origin_of, same_named, or_empty}
+use Rattle.ds_doc.specs.Names.{number_of, origin_of, or_empty}
 use Rattle.ds_doc.specs.Draft.{same_value}
-use Rattle.ds_doc.specs.Shapes.{unless}
 use Rattle.ds_doc.specs.Rules as rules
 use Rattle.ds_doc.specs.Values.{category, category_of, label, op, process, mailbox, lane, inlet, host, address}
 use Rattle.ds_doc.specs.Values as values
-use Rattle.ds_doc.proofs.Faults.{and_first, and_second, kept, front_kept, rest_kept, each_kept, all_map, all_more, all_both, all_append, all_flat, repeats_new, new_map}
-use Rattle.ds_doc.proofs.Known.{known_doc, known_within, known_number, known_process, origin_kept, one_category, one_host, home_key, other_key, named_same}
-use Rattle.ds_doc.proofs.Labels.{label_all, label_is, one_label}
-use Rattle.ds_doc.proofs.Hosts.{HostLimits, HostParts, OnceParts, HostTests, host_parts, once_parts, has_labels, host_sizes, all_where, knows, known_here, made_here, known_of, unknown_none, made_of, state_known, state_made, state_mapped, state_says, lane_known, lane_made, lanes_say, lanes_once, inlets_once, reg_fits, op_limits, proc_limits, number_eq}
+use Rattle.ds_doc.proofs.Faults.{and_first, and_second, kept, front_kept, rest_kept, each_kept, all_map, all_append, all_flat, repeats_new, new_map}
+use Rattle.ds_doc.proofs.Known.{known_number, known_process, one_category, other_key}
+use Rattle.ds_doc.proofs.Labels.{label_all}
+use Rattle.ds_doc.proofs.Hosts.{HostLimits, HostParts, OnceParts, HostTests, host_parts, once_parts, has_labels, host_sizes, knows, known_of, state_known, state_made, state_mapped, state_says, lane_known, lane_made, lanes_say, lanes_once, inlets_once, reg_fits, op_limits, proc_limits}
 
 -- ---- scripts
 

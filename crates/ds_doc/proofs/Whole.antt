@@ -1,24 +1,10 @@
 -- A draft whose rules are kept is a document.
-use Rattle.std.proofs.Common.{◌≡◌, ◌<◌, ◌≤◌, ℕ, zero, suc, ◌+◌, ◌-◌, ◌*◌, ◌^◌, List, [], ◌∷◌, ◌++◌, length, map, flat_map, slice_get, All, Bool, true, false, ◌&&◌, ◌||◌, not, ◌==◌, nat_le, nat_lt, nat_eq, Option, Some, None, option_map, is_some, bytes_eq, if◌then◌else◌, refl, sym, ap, ◌∙◌, subst, arith}
-use Rattle.std.specs.List.{list_all, list_any}
+use Rattle.std.proofs.Common.{◌≡◌, ◌≤◌, ℕ, zero, suc, ◌+◌, List, [], ◌∷◌, ◌++◌, length, map, flat_map, slice_get, All, Bool, true, false, ◌||◌, nat_le, nat_lt, nat_eq, Option, Some, None, option_map, bytes_eq, if◌then◌else◌, refl, sym, ap, ◌∙◌, subst, arith}
+use Rattle.std.specs.List.{list_all}
 use Rattle.std.proofs.lemmas.List.{length-map, length-append, map-append}
-use Rattle.std.proofs.lemmas.List.Elements.{All-nil, All-cons}
-use Rattle.std.proofs.lemmas.List.Folds.{list_all-map}
-use Rattle.std.proofs.lemmas.Bool.{and_from, ltb-true, lt-ltb, leb-true, le-leb, or_left, or_right}
-use Rattle.std.proofs.lemmas.Bool.Decides.{nat_tests}
+use Rattle.std.proofs.lemmas.Bool.{and_from, leb-true, le-leb, or_left}
 use Rattle.ds_label.specs.declared.category.PubKey.{PubKey}
-use Rattle.ds_label.specs.declared.category.Category.{Category}
-use Rattle.ds_label.specs.Flow.{has}
-use Rattle.ds_label.specs.Names.{by_name}
-use Rattle.ds_label.proofs.Namings.{names}
-use Rattle.ds_label.proofs.Members.{same-is}
-use Rattle.ds_script.specs.declared.op.Op.{Op}
-use Rattle.ds_script.specs.Fits.{IsOp, IsScript}
-use Rattle.ds_plan.specs.declared.host.HostSpec.{HostSpec}
-use Rattle.ds_plan.specs.declared.maker.Maker.{Maker}
-use Rattle.ds_plan.specs.declared.doc.Doc.{Doc}
-use Rattle.ds_plan.specs.declared.event.Event.{Event}
-use Rattle.ds_plan.specs.declared.cert.CertSpec.{CertSpec}
+use Rattle.ds_script.specs.Fits.{IsScript}
 use Rattle.ds_cert.specs.declared.cert.Cert.{Cert}
 use Rattle.ds_cert.specs.declared.cert.Cert.TheVariants as kinds
 use Rattle.ds_plan.specs.Keys.{same_key}
@@ -29,13 +15,7 @@ use Rattle.ds_plan.specs.Documents as plan
 use Rattle.ds_plan.specs.Documents.{stood, are_new, are_different, is_between, has_at_most, is_name, has_secret_length, is_address_if_some, HasLabels, IsLabel, IsDocument}
 use Rattle.ds_doc.specs.declared.draft.Placed.{Placed}
 use Rattle.ds_doc.specs.declared.draft.HostName.{HostName}
-use Rattle.ds_doc.specs.declared.draft.CategoryName.{CategoryName}
-use Rattle.ds_doc.specs.declared.draft.DraftOp.{DraftOp}
-use Rattle.ds_doc.specs.declared.draft.DraftOp.TheVariants as ops
 use Rattle.ds_doc.specs.declared.draft.DraftProc.{DraftProc}
-use Rattle.ds_doc.specs.declared.draft.DraftBox.{DraftBox}
-use Rattle.ds_doc.specs.declared.draft.DraftLane.{DraftLane}
-use Rattle.ds_doc.specs.declared.draft.DraftInlet.{DraftInlet}
 use Rattle.ds_doc.specs.declared.draft.DraftHost.{DraftHost}
 use Rattle.ds_doc.specs.declared.draft.DraftCert.{DraftCert}
 use Rattle.ds_doc.specs.declared.draft.DraftCert.TheVariants as certs
@@ -43,16 +23,13 @@ use Rattle.ds_doc.specs.declared.draft.DraftEvent.{DraftEvent}
 use Rattle.ds_doc.specs.declared.draft.DraftEvent.TheVariants as events
 use Rattle.ds_doc.specs.declared.draft.Draft.{Draft}
 use Rattle.ds_doc.specs.declared.rules.facts.GivenAt.{GivenAt}
-use Rattle.ds_doc.specs.declared.fault.Fault.{Fault}
 use Rattle.ds_doc.specs.declared.rules.facts.Facts.{Facts}
-use Rattle.ds_doc.specs.Names.{number_of, same_host, origin_of, same_named, or_empty}
-use Rattle.ds_doc.specs.Draft.{same_value}
+use Rattle.ds_doc.specs.Names.{number_of, or_empty}
 use Rattle.ds_doc.specs.Shapes.{unless}
 use Rattle.ds_doc.specs.Rules as rules
 use Rattle.ds_doc.specs.Values.{category_of, op, process, mailbox, lane, inlet, host, address, certificate, happening, doc_by, doc_of}
 use Rattle.ds_doc.specs.Values as values
-use Rattle.ds_doc.proofs.Faults.{and_first, and_second, kept, front_kept, rest_kept, each_kept, rule_at, places_by, lists_by, facts_by, all_map, all_append, all_flat, repeats_new, new_map}
-use Rattle.ds_doc.proofs.Known.{get_within}
+use Rattle.ds_doc.proofs.Faults.{and_first, and_second, kept, front_kept, rest_kept, each_kept, rule_at, places_by, lists_by, facts_by, all_map, all_flat, repeats_new, new_map}
 use Rattle.ds_doc.proofs.Hosts.{HostLimits, HostTests, known_of}
 use Rattle.ds_doc.proofs.Tests.{host_tests}
 

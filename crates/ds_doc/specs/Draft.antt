@@ -1,6 +1,6 @@
--- What a document says, with its places. Each function also answers where a form or a limit isn't kept: by a default, the
--- nearest number, or the first items.
-use Rattle.std.specs.Prelude.{ℕ, ◌+◌, ◌*◌, ◌-◌, ◌^◌, min, max, List, [], ◌∷◌, ◌++◌, length, map, flat_map, replicate, take, codes, Bool, nat_le, nat_eq, ◌||◌, if◌then◌else◌, Option, Some, None, option_map, unwrap_or, Result, Ok, Err}
+-- What a document says, with its places. Each function also answers where a form or a limit isn't kept: by a default,
+-- the nearest number, or the first items.
+use Rattle.std.specs.Prelude.{ℕ, ◌-◌, ◌^◌, min, max, List, [], ◌∷◌, ◌++◌, length, map, flat_map, replicate, take, codes, Bool, nat_le, nat_eq, ◌||◌, if◌then◌else◌, Option, Some, None, option_map, unwrap_or, Result, Ok, Err}
 use Rattle.hex.specs.Hex as hex
 use Rattle.lms_sig.specs.declared.params.Params.{Params}
 use Rattle.lms_sig.specs.declared.params.LmsType.{LmsType}
@@ -58,7 +58,8 @@ placed_word s = record { at = s.at; value = word s }
 
 -- what a member is, by its place and value; where it is missing, the default at the object's place
 abbrev pub at_member : {A : Type 0} → List ℕ → A → (Spot → A) → Spot → Placed A
-at_member name default read s = or_default (record { at = s.at; value = default }) (λ t. record { at = t.at; value = read t }) (member name s)
+at_member name default read s =
+    or_default (record { at = s.at; value = default }) (λ t. record { at = t.at; value = read t }) (member name s)
 
 -- the first items of the list that a member is
 abbrev pub first_items : List ℕ → ℕ → Spot → List Spot
@@ -140,20 +141,26 @@ of_one names w a =
     else ops.Import (register a)
 
 abbrev pub of_two : List ℕ → Spot → Spot → DraftOp
-of_two w a b = if same_text w (codes "set") then ops.Set (register a) (take 16384 (text b)) else ops.Take (register a) (word b)
+of_two w a b =
+    if same_text w (codes "set") then ops.Set (register a) (take 16384 (text b)) else ops.Take (register a) (word b)
 
 abbrev pub of_three : List ℕ → Spot → Spot → Spot → DraftOp
-of_three w a b c = if same_text w (codes "join") then ops.Join (register a) (register b) (register c) else ops.IfEq (register a) (register b) (placed_word c)
+of_three w a b c =
+    if same_text w (codes "join")
+    then ops.Join (register a) (register b) (register c)
+    else ops.IfEq (register a) (register b) (placed_word c)
 
 abbrev pub no_op : DraftOp
 no_op = ops.Print 0
 
 abbrev pub of_five : List (List ℕ) → Spot → Spot → Spot → Spot → Spot → DraftOp
-of_five names r category to from until = ops.Delegate (register r) (placed_category names category) (placed_host names to) (long from) (long until)
+of_five names r category to from until =
+    ops.Delegate (register r) (placed_category names category) (placed_host names to) (long from) (long until)
 
 abbrev pub of_six : List (List ℕ) → Spot → Spot → Spot → Spot → Spot → Spot → DraftOp
 of_six names to slot r label own clear =
-    ops.Send (placed_host names to) (word slot) (register r) (label_of names (items label)) (label_of names (items own)) (label_of names (items clear))
+    ops.Send (placed_host names to) (word slot) (register r) (label_of names (items label)) (label_of names (items own))
+    (label_of names (items clear))
 
 -- by the count of arguments; the word tells operations with one count apart
 abbrev pub op_of : List (List ℕ) → List ℕ → List Spot → DraftOp
@@ -202,7 +209,8 @@ lane_of names l = record {
 }
 
 unfoldable pub inlet_of : List (List ℕ) → Spot → DraftInlet
-inlet_of names i = record { at = i.at; from = host_at names (codes "from") i; lane = nearest_at (codes "lane") 1 1 32 i }
+inlet_of names i =
+    record { at = i.at; from = host_at names (codes "from") i; lane = nearest_at (codes "lane") 1 1 32 i }
 
 -- the bytes of so many hex digits
 abbrev pub bytes_or : {E : Type 0} → ℕ → Result (List ℕ) E → List ℕ
@@ -217,10 +225,14 @@ key_bytes s = bytes_or 56 (hex.decode_sized s 56)
 
 -- a host with a key in place of a seed is silent
 abbrev pub placed_key : Spot → Placed Secret
-placed_key h = at_member (codes "key") (secrets.Key (record { 0 = key_bytes [] })) (λ t. secrets.Key (record { 0 = key_bytes (text t) })) h
+placed_key h =
+    at_member (codes "key") (secrets.Key (record { 0 = key_bytes [] }))
+    (λ t. secrets.Key (record { 0 = key_bytes (text t) })) h
 
 unfoldable pub secret_of : Spot → Placed Secret
-secret_of h = or_default (placed_key h) (λ t. record { at = t.at; value = secrets.Seed (seed_bytes (text t)) }) (member (codes "seed") h)
+secret_of h =
+    or_default (placed_key h) (λ t. record { at = t.at; value = secrets.Seed (seed_bytes (text t)) })
+    (member (codes "seed") h)
 
 -- `5.3`, `5.4`, `6.3` or `6.4`: the height's type and the digits' type
 abbrev pub lms_of : List ℕ → LmsType
@@ -285,7 +297,8 @@ hosts_at names name s = map (placed_host names) (member_items name s)
 
 abbrev pub cert_by : List (List ℕ) → Spot → Option Spot → Option DraftCert
 cert_by names c (Some h) =
-    option_map (λ cert. certs.Given (record { at = h.at; value = cert }) (hosts_at names (codes "at") c)) (given_cert (hex.decode_of (text h)))
+    option_map (λ cert. certs.Given (record { at = h.at; value = cert }) (hosts_at names (codes "at") c))
+    (given_cert (hex.decode_of (text h)))
 cert_by names c None = Some (certs.Made
     (host_at names (codes "by") c)
     (category_at names (codes "cat") c)
@@ -304,7 +317,8 @@ bytes_of (Ok bytes) = bytes
 bytes_of (Err e) = []
 
 abbrev pub of_conn : List ℕ → Spot → DraftEvent
-of_conn w conn = if same_text w (codes "accept") then events.Accept (placed_word conn) else events.Deliver (placed_word conn)
+of_conn w conn =
+    if same_text w (codes "accept") then events.Accept (placed_word conn) else events.Deliver (placed_word conn)
 
 abbrev pub of_both : List (List ℕ) → List ℕ → Spot → Spot → DraftEvent
 of_both names w a b =

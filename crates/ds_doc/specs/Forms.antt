@@ -6,7 +6,6 @@ use Rattle.ds_doc.specs.declared.form.Single.TheVariants as single
 use Rattle.ds_doc.specs.declared.form.Listed.TheVariants as listed
 use Rattle.ds_doc.specs.declared.form.Object.TheVariants as objects
 use Rattle.ds_doc.specs.declared.form.Worded.TheVariants as worded
-use Rattle.ds_doc.specs.declared.form.Single as single_form
 use Rattle.ds_doc.specs.declared.form.Listed as listed_form
 use Rattle.ds_doc.specs.declared.form.Object as object_form
 use Rattle.ds_doc.specs.declared.form.Worded as worded_form
@@ -26,8 +25,8 @@ need name form = record { name = name; needed = true; form = form }
 abbrev pub may : List ℕ → Form → Member
 may name form = record { name = name; needed = false; form = form }
 
--- the members of an object. Of a host's seed and key there is exactly one, and a certificate has all of the members of one of
--- its two forms
+-- the members of an object. Of a host's seed and key there is exactly one, and a certificate has all of the members of
+-- one of its two forms
 abbrev pub members : object_form.Object → List Member
 members objects.Document =
     need (codes "version") (Single (single.Ranged 1 1))

@@ -22,7 +22,8 @@ abbrev pub origin_of : CategoryName → Origin
 origin_of c = record { host = number_of c.host; process = c.process; number = c.number }
 
 abbrev pub same_named : CategoryName → CategoryName → Bool
-same_named a b = same_host a.host b.host && (a.process == b.process) && (a.number == b.number) && same_kind a.kind b.kind
+same_named a b =
+    same_host a.host b.host && (a.process == b.process) && (a.number == b.number) && same_kind a.kind b.kind
 
 -- the items of a list that is written; none where it isn't
 abbrev pub or_empty : {A : Type 0} → Option (Placed (List A)) → List A

@@ -1,5 +1,5 @@
--- Values of a document at their places. The place of a value is the number of values before it: an object or a list comes
--- before what is in it, and members come by the bytes of their names, in which order an object has them.
+-- Values of a document at their places. The place of a value is the number of values before it: an object or a list
+-- comes before what is in it, and members come by the bytes of their names, in which order an object has them.
 use Rattle.std.specs.Prelude.{ℕ, ◌+◌, ◌-◌, ◌^◌, min, List, [], ◌∷◌, Bool, nat_eq, if◌then◌else◌, Option, Some, None, option_and_then, unwrap_or}
 use Rattle.std.specs.Cmp.Lexicographic.{pointwise}
 use Rattle.serde_json.specs.Data.{Data, null, boolean, string, array, object, Items, no_items, item, Members, no_members}
@@ -58,7 +58,8 @@ same_text first second = pointwise nat_eq first second
 -- the member of that name, among members the first of which is at a place
 abbrev pub member_from : List ℕ → ℕ → Members → Option Spot
 member_from name at no_members = None
-member_from name at (json.member k d ms) = if same_text k name then Some (record { at = at; value = d }) else member_from name (at ⊕ size d) ms
+member_from name at (json.member k d ms) =
+    if same_text k name then Some (record { at = at; value = d }) else member_from name (at ⊕ size d) ms
 
 -- the member of that name; none of another value than an object
 abbrev pub member_at : List ℕ → ℕ → Data → Option Spot

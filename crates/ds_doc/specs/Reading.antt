@@ -1,5 +1,5 @@
 -- What reading a document answers: the document, or the least code of a rule that it breaks with the least place.
-use Rattle.std.specs.Prelude.{◌≡◌, ℕ, List, map, Bool, false, nat_lt, if◌then◌else◌, Option, Some, None, Result, Ok, Err, ◌⊎◌}
+use Rattle.std.specs.Prelude.{◌≡◌, ℕ, List, Bool, false, nat_lt, if◌then◌else◌, Option, Some, None, Result, Ok, Err, ◌⊎◌}
 use Rattle.std.specs.Str.{IsUtf8}
 use Rattle.serde_json.specs.Data.{Data}
 use Rattle.serde_json.specs.Read.{read}
@@ -31,8 +31,8 @@ abbrev pub or_by_rules : Option Fault → Draft → Option Fault
 or_by_rules (Some f) draft = Some f
 or_by_rules None draft = least (rules draft)
 
--- The forms come first, then the limits, where also the room for address certificates counts, then all other rules. So no
--- rule is asked of a value that hasn't its form.
+-- The forms come first, then the limits, where also the room for address certificates counts, then all other rules. So
+-- no rule is asked of a value that hasn't its form.
 unfoldable pub fault_by : Option Fault → Draft → Option Fault
 fault_by form draft = if is_misshapen form then form else or_by_rules (lesser form (least (over_full draft))) draft
 

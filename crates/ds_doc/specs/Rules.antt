@@ -1,7 +1,7 @@
--- Codes 6 to 11, and the address certificates for which a host has no room (5): each rule that a document breaks, and where.
-use Rattle.std.specs.Prelude.{ℕ, suc, ◌+◌, ◌-◌, List, [], ◌∷◌, ◌++◌, length, map, flat_map, slice_get, Bool, ◌&&◌, ◌||◌, not, nat_le, nat_lt, bytes_eq, ◌==◌, if◌then◌else◌, false, Option, Some, None, is_some, option_map}
-use Rattle.std.specs.List.{list_all, list_any}
-use Rattle.lms_sig.specs.declared.params.Params.{Params}
+-- Codes 6 to 11, and the address certificates for which a host has no room (5): each rule that a document breaks, and
+-- where.
+use Rattle.std.specs.Prelude.{ℕ, suc, List, [], ◌∷◌, ◌++◌, length, map, flat_map, slice_get, Bool, ◌&&◌, ◌||◌, not, nat_le, nat_lt, bytes_eq, ◌==◌, if◌then◌else◌, false, Option, Some, None, is_some, option_map}
+use Rattle.std.specs.List.{list_all}
 use Rattle.ds_cert.specs.declared.cert.Cert.{Cert}
 use Rattle.ds_cert.specs.declared.cert.Cert.TheVariants as kinds
 use Rattle.ds_cert.specs.Spelling.{spelling_of_address}
@@ -30,7 +30,7 @@ use Rattle.ds_doc.specs.declared.draft.Draft.{Draft}
 use Rattle.ds_doc.specs.declared.rules.facts.Facts.{Facts}
 use Rattle.ds_doc.specs.declared.rules.facts.GivenAt.{GivenAt}
 use Rattle.ds_doc.specs.Shapes.{unless}
-use Rattle.ds_doc.specs.Names.{number_of, same_host, origin_of, same_named, or_empty}
+use Rattle.ds_doc.specs.Names.{number_of, same_host, origin_of, or_empty}
 use Rattle.ds_doc.specs.Draft.{same_value}
 
 -- ---- what the rules ask of all hosts
@@ -70,7 +70,8 @@ each_place rule place (x ∷ xs) = rule place x ++ each_place rule (suc place) x
 -- each item that stood before, behind those that are given, at its place
 abbrev pub repeats : {A : Type 0} → (A → A → Bool) → (A → ℕ) → List A → List A → List Fault
 repeats same place before [] = []
-repeats same place before (x ∷ xs) = unless (not (stood same before x)) 6 (place x) ++ repeats same place (before ++ x ∷ []) xs
+repeats same place before (x ∷ xs) =
+    unless (not (stood same before x)) 6 (place x) ++ repeats same place (before ++ x ∷ []) xs
 
 abbrev pub same_name : DraftHost → DraftHost → Bool
 same_name g h = bytes_eq g.name.value h.name.value
@@ -86,7 +87,8 @@ same_seed (Key k) b = false
 -- one key, made or given, or one seed
 unfoldable pub same_secret : DraftHost → DraftHost → Bool
 same_secret g h =
-    same_key (key_of g.identity g.secret.value) (key_of h.identity h.secret.value) || same_seed g.secret.value h.secret.value
+    same_key (key_of g.identity g.secret.value) (key_of h.identity h.secret.value)
+    || same_seed g.secret.value h.secret.value
 
 abbrev pub secret_place : DraftHost → ℕ
 secret_place h = h.secret.at
@@ -154,11 +156,13 @@ unknown_in_op facts size (ops.IfEq left right to) = past_the_end size to
 unknown_in_op facts size (ops.Jump to) = past_the_end size to
 unknown_in_op facts size (ops.Print reg) = []
 unknown_in_op facts size (ops.Send host slot reg label own clear) =
-    unknown_host facts host ++ unknown_categories facts label ++ unknown_categories facts own ++ unknown_categories facts clear
+    unknown_host facts host ++ unknown_categories facts label ++ unknown_categories facts own
+    ++ unknown_categories facts clear
 unknown_in_op facts size (ops.Take reg slot) = []
 unknown_in_op facts size (ops.SetLabel label) = unknown_categories facts label
 unknown_in_op facts size (ops.NewCat kind) = []
-unknown_in_op facts size (ops.Delegate reg category to from until) = unknown_category facts category ++ unknown_host facts to
+unknown_in_op facts size (ops.Delegate reg category to from until) =
+    unknown_category facts category ++ unknown_host facts to
 unknown_in_op facts size (ops.Map category) = unknown_category facts category
 unknown_in_op facts size (ops.Import reg) = []
 
@@ -173,8 +177,8 @@ is_home here c = number_of c.host == here
 abbrev pub unmapped : ℕ → List (Placed CategoryName) → Placed CategoryName → List Fault
 unmapped here rows c = unless (is_home here c.value || stood same_value rows c) 9 c.at
 
--- what is asked of each category of a map; of a process's label, ownership and clearance and of a mailbox's label; and of a
--- lane's label
+-- what is asked of each category of a map; of a process's label, ownership and clearance and of a mailbox's label; and
+-- of a lane's label
 unfoldable pub row_rules : Facts → ℕ → Placed CategoryName → List Fault
 row_rules facts here c = unknown_category facts c ++ unless (not (is_home here c.value)) 9 c.at
 
@@ -193,7 +197,8 @@ proc_rules facts here rows p =
 
 -- its owner is one of the host's processes, which are so many
 unfoldable pub box_rules : Facts → ℕ → List (Placed CategoryName) → ℕ → DraftBox → List Fault
-box_rules facts here rows procs b = unless (nat_lt b.owner.value procs) 7 b.owner.at ++ flat_map (state_rules facts here rows) b.label
+box_rules facts here rows procs b =
+    unless (nat_lt b.owner.value procs) 7 b.owner.at ++ flat_map (state_rules facts here rows) b.label
 
 unfoldable pub lane_rules : Facts → DraftLane → List Fault
 lane_rules facts l = unknown_host facts l.to ++ flat_map (lane_category_rules facts) l.label
@@ -204,7 +209,8 @@ inlet_rules facts i = unknown_host facts i.from
 -- ---- 10: more signatures than leaves; 11: what a silent host has
 
 abbrev pub overspent : Facts → ℕ → DraftHost → List Fault
-overspent facts here h = unless (has_leaves facts.signers here h.identity h.secret.value (is_some h.address) (lane_count h)) 10 h.at
+overspent facts here h =
+    unless (has_leaves facts.signers here h.identity h.secret.value (is_some h.address) (lane_count h)) 10 h.at
 
 abbrev pub silent_part : {A : Type 0} → Bool → Option (Placed A) → List Fault
 silent_part silent None = []
@@ -255,10 +261,12 @@ unknown_link facts conn = unless (is_link facts.lanes facts.links conn.value) 7 
 
 unfoldable pub event_rules : Facts → DraftEvent → List Fault
 event_rules facts (events.Step host index) =
-    unknown_host facts host ++ unless (has_process index.value (slice_get facts.makers (number_of host.value))) 7 index.at
+    unknown_host facts host
+    ++ unless (has_process index.value (slice_get facts.makers (number_of host.value))) 7 index.at
 event_rules facts (events.Frame host lane) =
     unknown_host facts host
-    ++ unless (runs (slice_get facts.makers (number_of host.value)) && has_lane lane.value (slice_get facts.lanes (number_of host.value))) 7 lane.at
+    ++ unless (runs (slice_get facts.makers (number_of host.value))
+    && has_lane lane.value (slice_get facts.lanes (number_of host.value))) 7 lane.at
 event_rules facts (events.Arrive conn count) = unknown_conn facts conn
 event_rules facts (events.Accept conn) = unknown_conn facts conn
 event_rules facts (events.Deliver conn) = unknown_conn facts conn
@@ -303,7 +311,8 @@ no_room_at made given here h = if is_silent h.secret.value then [] else no_room 
 
 unfoldable pub over_full : Draft → List Fault
 over_full d =
-    each_place (no_room_at (each_once bytes_eq [] (flat_map host_address d.hosts)) (flat_map given_in d.certs)) 0 d.hosts
+    each_place
+    (no_room_at (each_once bytes_eq [] (flat_map host_address d.hosts)) (flat_map given_in d.certs)) 0 d.hosts
 
 -- ---- all rules
 

@@ -1,5 +1,5 @@
 -- Codes 2 to 5: whether each value has the form that the table says, and stays in its limits.
-use Rattle.std.specs.Prelude.{ℕ, ◌-◌, ◌%◌, List, [], ◌∷◌, ◌++◌, length, codes, Bool, true, false, ◌&&◌, ◌||◌, not, nat_le, nat_lt, ◌==◌, if◌then◌else◌, Option, Some, None, is_some, option_and_then, option_to_list, Result, Ok, Err, flat_map}
+use Rattle.std.specs.Prelude.{ℕ, ◌%◌, List, [], ◌∷◌, ◌++◌, length, codes, Bool, true, false, ◌&&◌, ◌||◌, not, nat_le, nat_lt, ◌==◌, if◌then◌else◌, Option, Some, None, is_some, option_and_then, option_to_list, Result, Ok, Err, flat_map}
 use Rattle.std.specs.List.{list_all, list_any}
 use Rattle.serde_json.specs.Data.{Data, array, object, Items, no_items, item, Members, no_members}
 use Rattle.serde_json.specs.Data as json
@@ -50,7 +50,8 @@ listed (item d ds) = d ∷ listed ds
 -- texts, each once, behind those before them
 abbrev pub different_from : List (List ℕ) → List (List ℕ) → List (List ℕ)
 different_from before [] = before
-different_from before (s ∷ ss) = if list_any (λ t. same_text t s) before then different_from before ss else different_from (before ++ s ∷ []) ss
+different_from before (s ∷ ss) =
+    if list_any (λ t. same_text t s) before then different_from before ss else different_from (before ++ s ∷ []) ss
 
 abbrev pub different : List (List ℕ) → List (List ℕ)
 different texts = different_from [] texts
@@ -93,7 +94,9 @@ cert_faults at ms =
 
 -- an object as a whole has the members that it needs
 abbrev pub whole_faults : object_form.Object → ℕ → Members → List Fault
-whole_faults objects.Host at ms = unless (has ms (codes "name") && (has ms (codes "seed") || has ms (codes "key")) && not (has ms (codes "seed") && has ms (codes "key"))) 2 at
+whole_faults objects.Host at ms =
+    unless (has ms (codes "name") && (has ms (codes "seed") || has ms (codes "key")) && not (has ms (codes "seed")
+    && has ms (codes "key"))) 2 at
 whole_faults objects.Cert at ms = cert_faults at ms
 whole_faults o at ms = unless (has_all ms (needed o)) 2 at
 
@@ -110,7 +113,8 @@ is_hex s = list_all hex.is_hex_digit s
 
 -- `5.3`, `5.4`, `6.3` or `6.4`
 abbrev pub is_types : List ℕ → Bool
-is_types s = same_text s (codes "5.3") || same_text s (codes "5.4") || same_text s (codes "6.3") || same_text s (codes "6.4")
+is_types s =
+    same_text s (codes "5.3") || same_text s (codes "5.4") || same_text s (codes "6.3") || same_text s (codes "6.4")
 
 -- bytes that spell a delegation or an address certificate
 abbrev pub is_cert : Result Cert ℕ → Bool
@@ -144,12 +148,13 @@ single_faults f at d = text_faults f at (as_str d)
 abbrev pub word_arguments : worded_form.Worded → Data → Option (List Form)
 word_arguments w d = option_and_then (arguments w) (as_str d)
 
--- The faults of a value of that form at that place, and of those in it. Nothing is asked below a value of another type, an
--- unknown member, an unknown word or a wrong count of arguments.
+-- The faults of a value of that form at that place, and of those in it. Nothing is asked below a value of another type,
+-- an unknown member, an unknown word or a wrong count of arguments.
 abbrev mutual
   pub judged : Form → ℕ → Data → List Fault
   judged (Single f) at d = single_faults f at d
-  judged (Listed f) at (array ds) = unless (is_within (most f) (listed ds)) 5 at ++ judged_items (item_form f) (at ⊕ 1) ds
+  judged (Listed f) at (array ds) =
+      unless (is_within (most f) (listed ds)) 5 at ++ judged_items (item_form f) (at ⊕ 1) ds
   judged (Listed f) at _ = fault 4 at
   judged (Object f) at (object ms) = whole_faults f at ms ++ judged_members f (at ⊕ 1) ms
   judged (Object f) at _ = fault 4 at
@@ -162,7 +167,8 @@ abbrev mutual
 
   pub judged_members : object_form.Object → ℕ → Members → List Fault
   judged_members f at no_members = []
-  judged_members f at (json.member k d ms) = or_default (fault 3 at) (λ form. judged form at d) (member_form f k) ++ judged_members f (at ⊕ size d) ms
+  judged_members f at (json.member k d ms) =
+      or_default (fault 3 at) (λ form. judged form at d) (member_form f k) ++ judged_members f (at ⊕ size d) ms
 
   pub judged_words : worded_form.Worded → ℕ → Items → List Fault
   judged_words f at no_items = fault 4 at

@@ -1,5 +1,5 @@
 -- Forms of texts.
-use Rattle.std.specs.Prelude.{ℕ, ◌+◌, ◌-◌, ◌*◌, ◌^◌, List, [], ◌∷◌, length, take, drop, codes, Bool, true, ◌&&◌, ◌||◌, not, nat_le, nat_lt, ◌==◌, if◌then◌else◌, Option, Some, None}
+use Rattle.std.specs.Prelude.{ℕ, ◌+◌, ◌-◌, ◌*◌, List, [], ◌∷◌, length, take, drop, Bool, true, ◌&&◌, ◌||◌, not, nat_le, ◌==◌, if◌then◌else◌, Option, Some, None}
 use Rattle.std.specs.List.{list_all, position}
 use Rattle.ds_plan.specs.Documents.{is_name}
 use Rattle.ds_label.specs.declared.category.Kind.{Kind}
@@ -45,7 +45,8 @@ starts_with_zero (a ∷ others) = a == 48
 -- a decimal number of at most ten digits without leading zero, from 0 to `most`
 unfoldable pub decimal_of : ℕ → List ℕ → Option ℕ
 decimal_of most s =
-    if nat_le 1 (length s) && nat_le (length s) 10 && list_all is_digit s && (nat_le (length s) 1 || not (starts_with_zero s))
+    if nat_le 1 (length s) && nat_le (length s) 10 && list_all is_digit s && (nat_le (length s) 1
+    || not (starts_with_zero s))
     then only_if (nat_le (value_of s) most) (value_of s) else None
 
 -- the place of the first dot

@@ -1,6 +1,5 @@
 -- The document that a draft is, without its places.
 use Rattle.std.specs.Prelude.{ℕ, ◌+◌, ◌*◌, ◌^◌, List, [], ◌∷◌, map, replicate, slice_get, nat_le, length, if◌then◌else◌, Option, Some, None, option_map}
-use Rattle.std.specs.List.{fold}
 use Rattle.ds_label.specs.declared.category.PubKey.{PubKey}
 use Rattle.ds_label.specs.declared.category.Category.{Category}
 use Rattle.ds_label.specs.Flow.{with_member}
@@ -43,7 +42,9 @@ key_or (Some key) = key
 
 -- the creator is the host's key; a category of process P with number N there has the number P * 2^32 + N
 unfoldable pub category : List PubKey → CategoryName → Category
-category keys c = record { creator = key_or (slice_get keys (number_of c.host)); kind = c.kind; number = c.process * 2 ^ 32 + c.number }
+category keys c =
+    let creator = key_or (slice_get keys (number_of c.host)) in
+    record { creator = creator; kind = c.kind; number = c.process * 2 ^ 32 + c.number }
 
 abbrev pub category_of : List PubKey → Placed CategoryName → Category
 category_of keys c = category keys c.value

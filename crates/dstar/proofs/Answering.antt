@@ -1,6 +1,5 @@
 -- From the causes of a call to its answer by the bytes alone.
 use Rattle.std.proofs.Common.{◌≡◌, ℕ, ◌<◌, ◌≤◌, List, length, Option, Some, None, refl, sym, ap, subst, ◌∙◌, ◌⊎◌, inl, inr, arith, length-append, Result, Ok, Err}
-use Rattle.std.specs.Prelude.{unwrap_or}
 use Rattle.ds_base.specs.Counts.{Rose, Told}
 use Rattle.ds_base.proofs.Counting.{told_all}
 use Rattle.dstar.specs.declared.status.Status.{Status}
@@ -13,13 +12,11 @@ use Rattle.ds_commands.specs.Outcome.{Marked, name_in}
 use Rattle.ds_commands.specs.Lines.{secret_alone, secret_and_message}
 use Rattle.ds_commands.specs.Replies.{reply_of, keygen_reply, sign_reply}
 use Rattle.lms_sig.specs.declared.params.Params.{Params}
-use Rattle.ds_plan.specs.declared.doc.Doc.{Doc}
-use Rattle.ds_doc.specs.Reading.{answer_of, Document as Says}
 use Rattle.dstar.specs.declared.call.Call.{Call}
 use Rattle.dstar.specs.declared.call.Call.TheVariants.{Sim, Small}
 use Rattle.dstar.specs.Outside.{input_limit}
 use Rattle.dstar.specs.Runs.{TextOf, IsNoDocument}
-use Rattle.dstar.specs.Causes.{Observed, ReadWhole, Caused, Answers, Answered, Gives, SimGives, IsSomeDocument, IsDecided, name_of, status_of, text_in}
+use Rattle.dstar.specs.Causes.{Observed, ReadWhole, Caused, Answers, Answered, Gives, IsDecided, name_of, status_of, text_in}
 
 -- the bytes that were read to the end are the ones that the input told
 whole_is : (m : Observed) (bytes read : List ℕ) → m.told ≡ Some bytes → ReadWhole m read → read ≡ bytes
@@ -43,45 +40,19 @@ sign_alike params index mark other None lines decided m o = absurd decided
 sign_alike params index mark other (Some marks) (Err line) decided m o = refl
 sign_alike params index mark other (Some marks) (Ok (secret, message)) decided m o = ap (λ n. status_of (sign_reply params index n (Ok (secret, message)))) (m ∙ sym o)
 
--- bytes say one thing
-said_once : (bytes : List ℕ) (r s : Result Doc (ℕ × ℕ)) → Says bytes r → Says bytes s → r ≡ s
-said_once bytes r s (inl g) (inl h) = g.1 ∙ sym h.1
-said_once bytes r s (inl (no, is)) (inr (d, (utf8, json), e)) = let never : None ≡ Some d = sym (no utf8) ∙ json in absurd cc
-said_once bytes r s (inr (d, (utf8, json), e)) (inl (no, is)) = let never : None ≡ Some d = sym (no utf8) ∙ json in absurd cc
-said_once bytes r s (inr (d, (utf8, json), e)) (inr (d', (utf8', json'), e')) =
-    e ∙ ap answer_of (ap (λ o. unwrap_or o d) (sym json ∙ json')) ∙ sym e'
-
--- the status of what bytes say
-abbrev said_status : Result Doc (ℕ × ℕ) → Status
-said_status (Ok d) = ends.Ok
-said_status (Err f) = ends.Document f.0 f.1
-
--- bytes that are a document break no rule of documents
-unbroken : (bytes : List ℕ) (code place : ℕ) → IsSomeDocument bytes → Says bytes (Err (code, place)) → ⊥
-unbroken bytes code place (d, is) broken = let same : Ok d ≡ Err (code, place) = said_once bytes (Ok d) (Err (code, place)) is broken in absurd cc
-
--- two answers of `sim` over the same bytes end alike
-sim_alike : (bytes : List ℕ) (r s : Reply) → SimGives bytes r → SimGives bytes s → status_of r ≡ status_of s
-sim_alike bytes (Prints text) (Prints text') g h = refl
-sim_alike bytes (Prints text) (Denies text') g h = absurd h
-sim_alike bytes (Prints text) (Breaks code place) g (inl broken) = absurd (unbroken bytes code place g.0 broken)
-sim_alike bytes (Prints text) (Breaks code place) g (inr h) = absurd (h.3 g.1.document g.1.reads)
-sim_alike bytes (Prints text) Spends g h = absurd h
-sim_alike bytes (Denies text) s g h = absurd g
-sim_alike bytes (Breaks code place) (Prints text') (inl broken) h = absurd (unbroken bytes code place h.0 broken)
-sim_alike bytes (Breaks code place) (Prints text') (inr g) h = absurd (g.3 h.1.document h.1.reads)
-sim_alike bytes (Breaks code place) (Denies text') g h = absurd h
-sim_alike bytes (Breaks code place) (Breaks code' place') (inl one) (inl two) = ap said_status (said_once bytes (Err (code, place)) (Err (code', place')) one two)
-sim_alike bytes (Breaks code place) (Breaks code' place') (inl one) (inr h) = absurd (unbroken bytes code place h.0 one)
-sim_alike bytes (Breaks code place) (Breaks code' place') (inr g) (inl two) = absurd (unbroken bytes code' place' g.0 two)
-sim_alike bytes (Breaks code place) (Breaks code' place') (inr g) (inr h) = rw g.1 (rw g.2 (rw h.1 (rw h.2 refl)))
-sim_alike bytes (Breaks code place) Spends g h = absurd h
-sim_alike bytes Spends s g h = absurd g
-
 -- two answers of a call over the same bytes end alike
 alike : (call : Call) (now mark other : ℕ) (told : Option (List ℕ → ℕ)) (bytes : List ℕ) (r s : Reply) → IsDecided call told
     → Marked told (name_of call bytes) mark → Marked told (name_of call bytes) other → Gives call now mark bytes r → Gives call now other bytes s → status_of r ≡ status_of s
-alike Sim now mark other told bytes r s d m o g h = sim_alike bytes r s g h
+alike Sim now mark other told bytes (Prints text) (Prints text') d m o g h = refl
+alike Sim now mark other told bytes (Prints text) (Denies text') d m o g h = absurd h
+alike Sim now mark other told bytes (Prints text) (Breaks code place) d m o g h = absurd (h.2 g.document g.reads)
+alike Sim now mark other told bytes (Prints text) Spends d m o g h = absurd h
+alike Sim now mark other told bytes (Denies text) s d m o g h = absurd g
+alike Sim now mark other told bytes (Breaks code place) (Prints text') d m o g h = absurd (g.2 h.document h.reads)
+alike Sim now mark other told bytes (Breaks code place) (Denies text') d m o g h = absurd h
+alike Sim now mark other told bytes (Breaks code place) (Breaks code' place') d m o g h = rw g.0 (rw g.1 (rw h.0 (rw h.1 refl)))
+alike Sim now mark other told bytes (Breaks code place) Spends d m o g h = absurd h
+alike Sim now mark other told bytes Spends s d m o g h = absurd g
 alike (Small (Keygen params index)) now mark other told bytes r s d m o g h =
     ap status_of g ∙ keygen_alike params index mark other (secret_alone bytes) ∙ sym (ap status_of h)
 alike (Small (Sign params index)) now mark other told bytes r s d m o g h =

@@ -1,5 +1,5 @@
 -- What each way to end says of a call: one case a status.
-use Rattle.std.specs.Prelude.{◌≡◌, ◌⊎◌, ℕ, ◌<◌, ◌≤◌, List, length, Bool, false, Option, Some, None, Ok, Err}
+use Rattle.std.specs.Prelude.{◌≡◌, ◌⊎◌, ℕ, ◌<◌, ◌≤◌, List, length, Bool, false, Option, Some, None}
 use Rattle.ds_base.specs.Counts.{Rose, Told, NoneLeft, Appended}
 use Rattle.ds_commands.specs.declared.command.Command.{Command}
 use Rattle.ds_commands.specs.declared.command.Command.TheVariants.{Keygen, Sign, Verify, Chain}
@@ -9,8 +9,6 @@ use Rattle.ds_commands.specs.declared.reply.CommandFault.{CommandFault}
 use Rattle.ds_commands.specs.declared.reply.CommandFault.TheVariants as command_faults
 use Rattle.ds_commands.specs.Outcome.{Marked, MarksAfter, Failed, key_name, uses_leaf, asks_mark}
 use Rattle.ds_commands.specs.Replies.{reply_of}
-use Rattle.ds_plan.specs.declared.doc.Doc.{Doc}
-use Rattle.ds_doc.specs.Reading.{Document as Says}
 use Rattle.dstar.specs.declared.call.Call.{Call}
 use Rattle.dstar.specs.declared.call.Call.TheVariants.{Sim, Small}
 use Rattle.dstar.specs.declared.status.Status.{Status}
@@ -38,25 +36,12 @@ pub record Observed : Type 0 where
 
 -- WHAT A CALL ANSWERS, by the moment, the mark of its key and its whole input
 
--- the bytes are a document
-abbrev pub IsSomeDocument : List ℕ → Type 0
-IsSomeDocument bytes = (d : Doc) × Says bytes (Ok d)
-
--- the bytes are a document that isn't run: not one of one host without labels
-abbrev pub IsNotRun : List ℕ → ℕ → ℕ → Type 0
-IsNotRun bytes code place = IsSomeDocument bytes × (code ≡ 14) × (place ≡ 0) × IsNoDocument bytes
-
--- `sim`: the text of the run of a document, or the least code of a rule of documents that the bytes break, and its least place;
--- code 14 at place 0 of a document that isn't run
-abbrev pub SimGives : List ℕ → Reply → Type 0
-SimGives bytes (Prints text) = IsSomeDocument bytes × TextOf bytes text
-SimGives bytes (Breaks code place) = Says bytes (Err (code, place)) ⊎ IsNotRun bytes code place
-SimGives bytes (Denies text) = ⊥
-SimGives bytes Spends = ⊥
-
--- of `sim` that, of each other command its reply
+-- `sim`: the text of the document's run, or code 14 at place 0 where the input is no document; each other command its reply
 abbrev pub Gives : Call → (now mark : ℕ) → List ℕ → Reply → Type 0
-Gives Sim now mark bytes reply = SimGives bytes reply
+Gives Sim now mark bytes (Prints text) = TextOf bytes text
+Gives Sim now mark bytes (Breaks code place) = (code ≡ 14) × (place ≡ 0) × IsNoDocument bytes
+Gives Sim now mark bytes (Denies text) = ⊥
+Gives Sim now mark bytes Spends = ⊥
 Gives (Small command) now mark bytes reply = reply ≡ reply_of command now mark bytes
 
 -- the name of the mark that a call looks at

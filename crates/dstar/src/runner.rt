@@ -1,7 +1,9 @@
 //! A process of the one host.
 
-ghost use Rattle.std.specs.Prelude.{◌≡◌, ◌≤◌, ◌<◌, length, OnOk, IfOk, Some, slice_get, IfSome, ◌≢◌, Ok};
+ghost use Rattle.std.specs.Prelude.{◌≡◌, ◌≤◌, ◌<◌, length, List, OnOk, IfOk, Some, slice_get, IfSome, ◌≢◌, Ok};
 ghost use Rattle.ds_script.specs.Inner.{finished};
+ghost use Rattle.ds_script.specs.Names.{MayJoin};
+ghost use Rattle.ds_script.specs.declared.usable.Usable.{Usable};
 ghost use Rattle.ds_script.specs.Fits.{IsScript};
 
 use ds_label::LocalLabel;
@@ -106,6 +108,7 @@ impl Runner {
     ) -> Result<(), AllocError>
         requires going { self.old.course.place < length self.old.script }
         requires fits { IfSome loaded (λ l. (l.0 < 8) × (length l.1 ≤ 16384)) }
+        requires joins { (names : List Usable) → MayJoin (Some note) names }
         ensures { OnOk result (self.new ≡ record self.old { course = finished (Some note) loaded self.old.course }) }
     {
         self.process.reserve()?;

@@ -1,7 +1,9 @@
 //! The one host: an event, a round, the canonical schedule.
 
-ghost use Rattle.std.specs.Prelude.{◌≡◌, ◌≤◌, ◌<◌, length, map, OnOk, IfOk, IfSome, Some, None, slice_get, get_or, position, All, ◌≢◌};
+ghost use Rattle.std.specs.Prelude.{◌≡◌, ◌≤◌, ◌<◌, length, List, map, OnOk, IfOk, IfSome, Some, None, slice_get, get_or, position, All, ◌≢◌};
 ghost use Rattle.ds_script.specs.Inner.{finished};
+ghost use Rattle.ds_script.specs.Names.{MayJoin};
+ghost use Rattle.ds_script.specs.declared.usable.Usable.{Usable};
 ghost use Rattle.ds_script.specs.Fits.{IsScript};
 ghost use Rattle.dstar.specs.Things.{no_process, no_box};
 ghost use Rattle.dstar.specs.World.{process_of, box_of};
@@ -119,6 +121,7 @@ impl OneHost {
         requires within { index < length self.old.processes }
         requires going { (get_or self.old.processes index no_process).course.place < length (get_or self.old.processes index no_process).script }
         requires fits { IfSome loaded (λ l. (l.0 < 8) × (length l.1 ≤ 16384)) }
+        requires joins { (names : List Usable) → MayJoin (Some note) names }
         ensures { OnOk result (self.new ≡ goes index (get_or self.old.processes index no_process) (finished (Some note) loaded (get_or self.old.processes index no_process).course) self.old) }
     {
         self.processes[index].finish(note, loaded)

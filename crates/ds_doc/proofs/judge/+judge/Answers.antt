@@ -1,9 +1,7 @@
-use Rattle.std.proofs.Common.{◌≡◌, ◌+◌, ◌<◌, ◌∙◌, sym, ap, drop, length, get_or, ◌∷◌, arith, rules}
+use Rattle.std.proofs.Common.{◌≡◌, ◌+◌, ◌<◌, ◌∙◌, sym, drop, length, get_or, ◌∷◌, rules}
 use Rattle.std.proofs.lemmas.List.{drop_more}
-use Rattle.serde_json.specs.declared.value.Value.{Value}
 use Rattle.serde_json.specs.View.{view, items_view}
-use Rattle.ds_doc.specs.Places.{◌⊕◌, size}
-use Rattle.ds_doc.specs.Shapes.{least, lesser, judged, judged_items, judged_each}
+use Rattle.ds_doc.specs.Shapes.{least, lesser, judged_items, judged_each}
 use Rattle.ds_doc.proofs.Judging.{all_step, each_step}
 use Rattle.ds_doc.proofs.judge.+judge.Goals as goal
 

@@ -1,8 +1,7 @@
 use Rattle.std.proofs.Common.{◌≡◌, ◌+◌, drop}
-use Rattle.serde_json.specs.Data.{array, object}
+use Rattle.serde_json.specs.Data.{object}
 use Rattle.serde_json.specs.View.{items_view, members_view}
-use Rattle.ds_doc.specs.declared.form.Form.TheVariants.{Listed, Object}
-use Rattle.ds_doc.specs.Forms.{item_form}
+use Rattle.ds_doc.specs.declared.form.Form.TheVariants.{Object}
 use Rattle.ds_doc.specs.Shapes.{least, lesser, judged, judged_items, judged_members, judged_each}
 use Rattle.ds_doc.proofs.judge.+judge.Given as goal
 

@@ -1,4 +1,4 @@
-use Rattle.std.proofs.Common.{◌≡◌, ◌+◌, ◌*◌, ◌-◌, ◌<◌, ◌≤◌, sym, subst, ap, ◌∙◌, drop, length, get_or, arith, rules, None, nat_le}
+use Rattle.std.proofs.Common.{◌≡◌, ◌+◌, ◌*◌, ◌-◌, ◌<◌, sym, subst, ◌∙◌, drop, length, get_or, arith, rules, None, nat_le}
 use Rattle.std.proofs.lemmas.List.{at_drop_more}
 use Rattle.ds_doc.specs.Texts.{value_of, value_from, only_if}
 use Rattle.ds_doc.proofs.Cuts.{beyond}

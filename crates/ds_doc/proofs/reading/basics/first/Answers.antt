@@ -1,4 +1,4 @@
-use Rattle.std.proofs.Common.{◌≡◌, map, take, rules}
+use Rattle.std.proofs.Common.{rules}
 use Rattle.std.specs.List.{take-map}
 use Rattle.ds_doc.specs.Seen.{seen}
 use Rattle.ds_doc.proofs.reading.basics.first.Goals as goal

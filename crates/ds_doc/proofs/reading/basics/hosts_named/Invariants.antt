@@ -1,4 +1,4 @@
-use Rattle.std.proofs.Common.{◌≡◌, ◌++◌, drop, map, flat_map, codes}
+use Rattle.std.proofs.Common.{◌≡◌, ◌++◌, drop, map}
 use Rattle.ds_doc.specs.Draft.{placed_host}
 use Rattle.ds_doc.specs.Seen.{seen}
 use Rattle.ds_doc.proofs.reading.basics.hosts_named.Given as goal

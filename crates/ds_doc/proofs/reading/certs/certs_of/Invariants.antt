@@ -1,4 +1,4 @@
-use Rattle.std.proofs.Common.{◌≡◌, ◌++◌, drop, map, flat_map, codes}
+use Rattle.std.proofs.Common.{◌≡◌, ◌++◌, drop, map, flat_map}
 use Rattle.ds_doc.specs.Draft.{cert_of}
 use Rattle.ds_doc.specs.Seen.{seen}
 use Rattle.ds_doc.proofs.reading.certs.certs_of.Given as goal

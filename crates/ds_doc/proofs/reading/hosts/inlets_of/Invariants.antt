@@ -1,4 +1,4 @@
-use Rattle.std.proofs.Common.{◌≡◌, ◌++◌, drop, map, flat_map, codes}
+use Rattle.std.proofs.Common.{◌≡◌, ◌++◌, drop, map}
 use Rattle.ds_doc.specs.Draft.{inlet_of}
 use Rattle.ds_doc.specs.Seen.{seen}
 use Rattle.ds_doc.proofs.reading.hosts.inlets_of.Given as goal

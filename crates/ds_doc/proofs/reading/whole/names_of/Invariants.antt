@@ -1,4 +1,4 @@
-use Rattle.std.proofs.Common.{◌≡◌, ◌++◌, drop, map, flat_map, codes}
+use Rattle.std.proofs.Common.{◌≡◌, ◌++◌, drop, map, codes}
 use Rattle.ds_doc.specs.Places.{member_text}
 use Rattle.ds_doc.specs.Seen.{seen}
 use Rattle.ds_doc.proofs.reading.whole.names_of.Given as goal

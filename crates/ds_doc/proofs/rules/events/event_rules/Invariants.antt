@@ -1,4 +1,4 @@
-use Rattle.std.proofs.Common.{◌≡◌, ◌++◌, [], take, map, flat_map, codes}
+use Rattle.std.proofs.Common.{◌≡◌, ◌++◌, take, flat_map}
 use Rattle.ds_doc.specs.Rules.{event_rules}
 use Rattle.ds_doc.proofs.rules.events.event_rules.Given as goal
 

@@ -1,4 +1,4 @@
-use Rattle.std.proofs.Common.{◌≡◌, ◌++◌, drop, map, flat_map}
+use Rattle.std.proofs.Common.{◌≡◌, ◌++◌, drop, map}
 use Rattle.ds_doc.specs.Values.{lane}
 use Rattle.ds_doc.proofs.values.hosts.lanes_of.Given as goal
 

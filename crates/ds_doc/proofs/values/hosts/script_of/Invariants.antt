@@ -1,4 +1,4 @@
-use Rattle.std.proofs.Common.{◌≡◌, ◌++◌, drop, map, flat_map}
+use Rattle.std.proofs.Common.{◌≡◌, ◌++◌, drop, map}
 use Rattle.ds_doc.specs.Values.{op}
 use Rattle.ds_doc.proofs.values.hosts.script_of.Given as goal
 
