@@ -42,7 +42,6 @@ public_fits params seed id size =
     omega (arith, length-append (lms ++ ots ++ id) root, length-append (lms ++ ots) id, length-append lms ots, length-u32str (lms_code params.lms), length-u32str (ots_code params.ots), length-T params seed id (height params.lms) 1, size)
 
 pub key_fits : (identity : Params) (secret : Secret) → has_secret_length secret ≡ true → KeyFits (key_of identity secret)
-unfolding key_of
 key_fits identity (Seed secret) size = public_fits identity (derived_seed secret 0) (derived_id secret 0) (id_length secret 0)
 key_fits identity (Key key) size = eqb-true (length key.0) 56 size
 

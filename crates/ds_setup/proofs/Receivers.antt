@@ -70,7 +70,6 @@ module _ {X : Type 0} (p : X → Bool) where
 -- ---- keys and signatures
 
 good_by : (identity : Params) (secret : Secret) (leaf : ℕ) (part : List ℕ) → is_silent secret ≡ false → leaf < leaf_count identity.lms → is_good (key_of identity secret).0 part (signature_by identity secret leaf part) ≡ true
-unfolding key_of signature_by
 good_by identity (Seed secret) leaf part runs below =
     test_from_good _ part _ (signature-good identity (derived_seed secret 0) (derived_id secret 0) part leaf (id_length secret 0) below)
 good_by identity (Key key) leaf part runs below = absurd cc

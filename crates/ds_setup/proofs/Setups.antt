@@ -102,7 +102,6 @@ module _ (d : Doc) (is : IsDocument d) where
   lane_key_fits lanekey (Key key) number runs = absurd cc
 
   short : (identity : Params) (secret : Secret) (leaf : ℕ) (message : List ℕ) → length (signature_by identity secret leaf message) ≤ 2508
-  unfolding signature_by
   short identity (Seed secret) leaf message = (signature_fits (record { params = identity; seed = derived_seed secret 0; id = derived_id secret 0 }) leaf message).most
   short identity (Key key) leaf message = omega arith
 
