@@ -58,8 +58,8 @@ AgreeingSetups = (c : Category) (trusted : List ℕ) (d e : Doc) → AgreeDocs c
 
 -- Two runs of documents that agree, for a secrecy category, with equal observations once high ones are left out, of
 -- trusted hosts that obey, with nothing forged.
-pub record Both (c : Category) (trusted : List ℕ) (d : Doc) (one : List Event) (e : Doc) (two : List Event) : Type 0
-where
+pub record Both (c : Category) (trusted : List ℕ) (d : Doc) (one : List Event) (e : Doc) (two : List Event)
+    : Type 0 where
   pub secret : is_secrecy c.kind ≡ true
   pub documents : AgreeDocs c trusted d e
   pub same_marks : marks scheme c trusted (plan_of d) (start_of d) one
