@@ -42,7 +42,8 @@ spec_at d h p = spec_in (slice_get d.hosts h) p
 abbrev pub high_at_setup : Category → (trusted : List ℕ) → Doc → (host proc : ℕ) → Bool
 high_at_setup c trusted d h p = high_at c (is_in trusted h) (proc_at (start_of d) h p)
 
--- The documents are equal but for their budgets and events, and for processes that are high at both setups, place by place.
+-- The documents are equal but for their budgets and events, and for processes that are high at both setups, place by
+-- place.
 pub record AgreeDocs (c : Category) (trusted : List ℕ) (d e : Doc) : Type 0 where
   pub rest : rest_of d ≡ rest_of e
   pub procs : (h p : ℕ) →
@@ -55,12 +56,14 @@ AgreeingSetups = (c : Category) (trusted : List ℕ) (d e : Doc) → AgreeDocs c
 
 -- THEIR RUNS
 
--- Two runs of documents that agree, for a secrecy category, with equal observations once high ones are left out, of trusted
--- hosts that obey, with nothing forged.
-pub record Both (c : Category) (trusted : List ℕ) (d : Doc) (one : List Event) (e : Doc) (two : List Event) : Type 0 where
+-- Two runs of documents that agree, for a secrecy category, with equal observations once high ones are left out, of
+-- trusted hosts that obey, with nothing forged.
+pub record Both (c : Category) (trusted : List ℕ) (d : Doc) (one : List Event) (e : Doc) (two : List Event)
+    : Type 0 where
   pub secret : is_secrecy c.kind ≡ true
   pub documents : AgreeDocs c trusted d e
-  pub same_marks : marks scheme c trusted (plan_of d) (start_of d) one ≡ marks scheme c trusted (plan_of e) (start_of e) two
+  pub same_marks : marks scheme c trusted (plan_of d) (start_of d) one
+      ≡ marks scheme c trusted (plan_of e) (start_of e) two
   pub obeys_one : Obeys scheme c trusted (plan_of d) (start_of d) one
   pub obeys_two : Obeys scheme c trusted (plan_of e) (start_of e) two
   pub unforged_one : Unforged scheme c trusted (plan_of d) (start_of d) one

@@ -5,7 +5,6 @@ use Rattle.ds_model.specs.Step.{Event}
 use Rattle.ds_model.proofs.Moves.{some_schedule}
 use Rattle.ds_model.proofs.Schedules.{one_schedule}
 use Rattle.ds_scheme.specs.TheScheme.{scheme}
-use Rattle.ds_plan.specs.declared.doc.Doc.{Doc}
 use Rattle.ds_plan.specs.declared.event.Event.{Event as DocEvent}
 use Rattle.ds_setup.specs.Plans.{plan_of}
 use Rattle.ds_setup.specs.Starts.{start_of}

@@ -61,8 +61,8 @@ signed_from hosts host h leaf (Made by category to from until at ∷ later) =
     else signed_from hosts host h leaf later
 signed_from hosts host h leaf (Given cert at ∷ later) = signed_from hosts host h leaf later
 
--- a running host's issued list has the document's delegations that it signs, behind its lanes', and nothing else; the next leaf
--- of its key is the one behind
+-- a running host's issued list has the document's delegations that it signs, behind its lanes', and nothing else; the
+-- next leaf of its key is the one behind
 abbrev pub EachIssuesInOrder : Type 0
 EachIssuesInOrder = (d : Doc) (host : ℕ) (h : HostSpec) (x : Desk) →
     slice_get d.hosts host ≡ Some h → is_silent h.secret ≡ false → desk_at (start_of d) host ≡ Some x →

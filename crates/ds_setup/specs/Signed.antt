@@ -1,5 +1,5 @@
--- What setup signs with a host's identity key, leaf by leaf: the host's address certificate, then its lanes' certificates
--- by their numbers, then the document's certificates by that host, in order.
+-- What setup signs with a host's identity key, leaf by leaf: the host's address certificate, then its lanes'
+-- certificates by their numbers, then the document's certificates by that host, in order.
 use Rattle.std.specs.Prelude.{ℕ, ◌+◌, ◌-◌, ◌==◌, List, [], ◌∷◌, ◌++◌, length, filter, slice_get, Option, Some, None, is_some}
 use Rattle.ds_cert.specs.declared.lane.LaneCert.{LaneCert}
 use Rattle.ds_cert.specs.declared.cert.Cert.{Cert}
@@ -45,7 +45,9 @@ lane_signature h number lane = signature_by h.identity h.secret (lane_leaf h num
 
 abbrev pub signed_lane : List HostSpec → HostSpec → (number : ℕ) → LaneSpec → LaneCert
 signed_lane hosts h number lane =
-    record (unsigned_lane hosts h number lane) { signature = lane_signature h number (unsigned_lane hosts h number lane) }
+    record (unsigned_lane hosts h number lane) {
+      signature = lane_signature h number (unsigned_lane hosts h number lane);
+    }
 
 -- THE DOCUMENT'S CERTIFICATES
 

@@ -70,7 +70,8 @@ running_desk d host h = record {
   moment = d.moment;
   rows = h.map;
   store = delegations_once (flat_map delegations_in (kept_at host (doc_certs d.hosts d.certs)));
-  addresses = addresses_once (own_addresses d.hosts ++ flat_map addresses_in (kept_at host (doc_certs d.hosts d.certs)));
+  addresses =
+      addresses_once (own_addresses d.hosts ++ flat_map addresses_in (kept_at host (doc_certs d.hosts d.certs)));
   issued = issued_by host (doc_certs d.hosts d.certs);
   leaf = leaf_behind h host d.certs;
 }

@@ -19,14 +19,15 @@ pub fn connections_are_in_order()
     ensures { (d : Doc) → ConnsAreInOrder d }
 {}
 
-/// A running host's desk begins with the document's delegations that the host signs, in order, and a silent host's with nothing.
+/// A running host's desk begins with the document's delegations that the host signs, in order, and a silent host's with
+/// nothing.
 pub fn desks_begin_so()
     ensures issued { EachIssuesInOrder }
     ensures silent { SilentDesksAreEmpty }
 {}
 
-/// A document's run has the events that the document gives, or else those of the canonical schedule: there is one list of them, and
-/// one alone.
+/// A document's run has the events that the document gives, or else those of the canonical schedule: there is one list
+/// of them, and one alone.
 pub fn runs_are_one()
     ensures some { EachHasARun }
     ensures one { EachHasOneRun }

@@ -1,5 +1,5 @@
-//! What setup makes of a document: the plan, which no event changes, and the world before the first event. Definitions alone, and
-//! the laws that every document's setup fits what the theorems about runs ask of it.
+//! What setup makes of a document: the plan, which no event changes, and the world before the first event. Definitions
+//! alone, and the laws that every document's setup fits what the theorems about runs ask of it.
 #![tactic(auto)]
 
 mod laws;
