@@ -24,14 +24,14 @@ use Rattle.ds_model.specs.Lane.{Queued, QueueFull, lane_after, admit_entry, admi
 use Rattle.ds_model.specs.Inlet.{Inlet, Fresh, inlet_after, is_fresh, numbered}
 use Rattle.ds_model.specs.Inlet as entries
 use Rattle.ds_model.specs.Desk.{Desk}
-use Rattle.ds_model.specs.World.{Process, Mail, Mailbox, Waiting, Queue, Worker, LaneLine, QueuedLine, FullLine, FramedLine, DroppedLine, FrameLine, StaleLine, PassLine, DropLine, Conn, Host, World, Passed}
-use Rattle.ds_model.specs.ProcessStep.{Ask, Put, Admit, TakeFrom, AsksJudgement, noted, refused, box_of, label_of, Target, Not, Into, target, judge_box, message_of, send_rule, mail_of, send_here, send_away, send, take_rule, take_from, ask_outer, ask_inner, lane_of, queue_at, ask_hand, ask, taken_after_reply, judged_after_reply}
-use Rattle.ds_model.specs.WorkerStep.{LaneAsk, WorkerWaits, Lifts, AsksRecheck, lane_ask_hand, lane_ask, frame_rule, rechecked, still_good, with_frame, checked_after_reply, lifted_after_reply, dropped_line, dropped_lines, framed_line, checked_lines, admitted_line}
+use Rattle.ds_model.specs.World.{Process, Mail, Mailbox, Waiting, Queue, Worker, LaneLine, QueuedLine, FullLine, FramedLine, DroppedLine, PassLine, DropLine, Conn, Host, World, Passed}
+use Rattle.ds_model.specs.ProcessStep.{Ask, Put, Admit, TakeFrom, AsksJudgement, noted, refused, box_of, label_of, Target, Not, Into, target, judge_box, message_of, send_rule, mail_of, send_here, send_away, send, take_rule, take_from, ask_outer, ask_inner, queue_at, ask_hand, ask, taken_after_reply, judged_after_reply}
+use Rattle.ds_model.specs.WorkerStep.{LaneAsk, WorkerWaits, Lifts, AsksRecheck, lane_ask_hand, lane_ask, frame_rule, rechecked, with_frame, checked_after_reply, lifted_after_reply, dropped_line, framed_line, admitted_line}
 use Rattle.ds_model.specs.ConnectionStep.{ConnAsk, ConnWaits, AsksInlet, AsksArrival, PutsPassed, peer, inlet_of, fresh_frame, stale_frame, take_frame, frame_from, accept_item, accept_free, accept, put_passed, deliver_to, deliver_from, deliver, target_rule, judge_delivery, delivery_after_reply, passed_of}
-use Rattle.ds_model.specs.Step.{Step, Frame, Accept, Deliver, HostAndConn, judged, attached, arrived, perform, step_proc, checked_in, front_of, perform_lane, step_lane, fresh_in, perform_conn, step_conn, with_ends, lined, admitted_lines, oldest_in, step}
+use Rattle.ds_model.specs.Step.{Step, Frame, Accept, Deliver, judged, attached, arrived, perform, step_proc, checked_in, front_of, perform_lane, step_lane, fresh_in, perform_conn, step_conn, with_ends, lined, admitted_lines, oldest_in, step}
 use Rattle.ds_model.proofs.Places.{at_alike, at_still, some_is}
 use Rattle.ds_model.proofs.Rechecks.{passes, good_is, lines_are}
-use Rattle.ds_delivery.specs.Rules.{sending, leading, releasing, arriving, entering, taking, is_above}
+use Rattle.ds_delivery.specs.Rules.{is_above}
 use Rattle.ds_delivery.specs.Checked.{ByFirst, IfRuleFails, set, with_host, with_conn, with_proc, put_into, found_full, IsAt, IsOpen, SendChecked, IsFramed, FrameChecked, ArrivalChecked, BoxChecked, TakeChecked, EachChecked}
 use Rattle.ds_delivery.proofs.Lists.{in_none, in_head, in_tail, in_cases, in_filter, filter_in}
 use Rattle.ds_delivery.proofs.Kept.{passes_none}
@@ -363,13 +363,17 @@ module _ (s : Scheme) (plan : Plan) (w : World) where
     sym (parted q).0,
     (parted q).1,
     lane_after_ask h l x e Lifts stands works (ap (lane_ask_hand s (lane_plan (host_plan plan h) l) e) hand ∙ ap (λ b. cond b Lifts WorkerWaits) ready)
-    ∙ ap₂ (λ qs ws. with_host w h (record x { queues = qs; workers = ws }))
-    (at_alike l lifted (λ _. lifted q) x.queues (λ u c. ap lifted (some_is u q (sym c ∙ queued))))
-    (one_worker x l e (lifted_after_reply (front_of (slice_get x.queues l))) works ∙ ap (λ o. set l (lifted_after_reply (front_of o) e) x.workers) queued),
+        ∙ ap₂ (λ qs ws. with_host w h (record x { queues = qs; workers = ws }))
+        (at_alike l lifted (λ _. lifted q) x.queues (λ u c. ap lifted (some_is u q (sym c ∙ queued))))
+        (one_worker x l e (lifted_after_reply (front_of (slice_get x.queues l))) works ∙ ap (λ o. set l (lifted_after_reply (front_of o) e) x.workers) queued),
   )
 
   pub frame_checked : FrameChecked s plan w
-  frame_checked = record { judges = frames; waits = waits; lifts = lifts }
+  frame_checked = record {
+    judges = λ h l x e m others log is hand prints. frames h l x e m others log is.stands is.works hand prints;
+    waits = λ h l x e is hand spent. waits h l x e is.stands is.works hand spent;
+    lifts = λ h l x e q is queued hand ready. lifts h l x e q is.stands is.works queued hand ready;
+  }
 
   -- CONNECTIONS
 

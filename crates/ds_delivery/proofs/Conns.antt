@@ -6,7 +6,7 @@ use Rattle.ds_msg.specs.declared.message.Message.{Message}
 use Rattle.ds_model.specs.Scheme.{Scheme, Item, Hello, Framed, Failure}
 use Rattle.ds_model.specs.Plan.{HostPlan}
 use Rattle.ds_model.specs.World.{Mail, Conn, Passed}
-use Rattle.ds_model.specs.ProcessStep.{box_of, mail_of}
+use Rattle.ds_model.specs.ProcessStep.{box_of}
 use Rattle.ds_model.specs.ConnectionStep.{ConnAsk, ConnWaits, ConnInternal, AsksInlet, AsksArrival, PutsPassed, peer, inlet_of, fresh_frame, stale_frame, take_frame, frame_from, fail, accept_item, accept_free, accept, put_passed, deliver_to, deliver_from, deliver}
 use Rattle.ds_model.proofs.Places.{cond_case}
 

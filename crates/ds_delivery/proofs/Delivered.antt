@@ -15,7 +15,7 @@ use Rattle.ds_delivery.specs.Premises.{Written, stream_with, items_with, CanBeWr
 use Rattle.ds_delivery.specs.Delivered.{DeliveredLawfully}
 use Rattle.ds_delivery.proofs.Lists.{in_none, in_cases, in_map}
 use Rattle.ds_model.specs.ExporterRules.{sender_rule}
-use Rattle.ds_model.specs.ProcessStep.{box_of, mail_of}
+use Rattle.ds_model.specs.ProcessStep.{box_of}
 use Rattle.ds_model.specs.ConnectionStep.{ConnAsk, PutsPassed, deliver}
 use Rattle.ds_delivery.proofs.Conns.{HandFacts, DeliverFacts, deliver_facts}
 use Rattle.ds_delivery.proofs.Kept.{IsWhole, QueuedBefore, WasFramed, KeptWorker}
@@ -136,7 +136,7 @@ module _ (s : Scheme) (has_spelling : Message → Bool) (plan : Plan) (start : W
       let here : HostPlan = host_plan plan r in
       let read : slice_get (s.items here.key here.inlets (take st.many (stream_with s (lane_plan (host_plan plan h) l) st.frames))) place ≡ Some (Framed number messages) = subst (λ bytes. slice_get (s.items here.key here.inlets bytes) place ≡ Some (Framed number messages)) (sym (take_all stream) ∙ st.stream) item in
       let f : (g : Written) × Contains st.frames g × (g.number ≡ number) × (g.messages ≡ messages) = item_framed (lane_plan (host_plan plan h) l) st.frames number messages
-          (is.own h l real st.frames (λ g in_frames. wrote_can h l g events spells (st.whole g in_frames) (st.wrote g in_frames)) here st.many place (Framed number messages) read) in
+      (is.own h l real st.frames (λ g in_frames. wrote_can h l g events spells (st.whole g in_frames) (st.wrote g in_frames)) here st.many place (Framed number messages) read) in
       framed_sent h l number messages m events (subst (λ ms. WasFramed s plan start h l number ms events) f.3 (subst (λ n. WasFramed s plan start h l n f.0.messages events) f.2 (st.wrote f.0 f.1))) c
 
   rules_from : (before : List Event) (e : Event) → Spells s has_spelling plan start before → (k b : ℕ) (lane : LaneCert) (p : Passed) → PutsFrom s plan start k b lane p before e → RulesFrom s plan start k b lane p before

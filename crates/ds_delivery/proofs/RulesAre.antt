@@ -1,11 +1,10 @@
 -- The rules one by one are those that the steps ask.
 use Rattle.std.proofs.Common.{◌≡◌, ℕ, Bool, true, false, cond, List, [], ◌∷◌, ◌++◌, Option, Some, None, option_map, refl, sym, ◌∙◌, ap, ap₂}
-use Rattle.std.specs.Prelude.{◌==◌, not, ◌&&◌, ◌||◌, find, is_some, nat_lt, nat_le}
-use Rattle.std.specs.List.{list_all}
+use Rattle.std.specs.Prelude.{not, ◌&&◌, ◌||◌, find, is_some, nat_lt, nat_le}
 use Rattle.ds_label.specs.declared.category.Category.{Category}
 use Rattle.ds_label.specs.declared.rule.Rule.{Rule}
-use Rattle.ds_label.specs.declared.rule.Rule.TheVariants.{NotKnown, NotFlow, GrantNotOwned, ClearNotHeld, NoLane, NoAddress, PeerNotTrusted, LaneLapsed, WrongHost, WrongLabel, SenderNotTrusted, NoBox, NotFlowToBox, NotFlowToTaker}
-use Rattle.ds_label.specs.Flow.{has, flows, same_label}
+use Rattle.ds_label.specs.declared.rule.Rule.TheVariants.{NotKnown, NoLane, NoAddress, PeerNotTrusted, LaneLapsed, WrongHost, WrongLabel, SenderNotTrusted, NoBox, NotFlowToBox, NotFlowToTaker}
+use Rattle.ds_label.specs.Flow.{flows, same_label}
 use Rattle.ds_label.specs.Names.{is_secrecy, by_name}
 use Rattle.ds_cert.specs.declared.address.Address.{Address}
 use Rattle.ds_cert.specs.declared.lane.LaneCert.{LaneCert}

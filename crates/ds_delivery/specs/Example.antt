@@ -1,6 +1,6 @@
--- Two runs that meet the premises, computed: a letter is delivered from a lane's own connection, and over a link on which an
--- outsider wrote a copy of the lane's stream. In place of signatures and spelling stands a toy: a hello is one byte, and a
--- frame is its number and how many letters it has.
+-- Two runs that meet the premises, computed: a letter is delivered from a lane's own connection, and over a link on
+-- which an outsider wrote a copy of the lane's stream. In place of signatures and spelling stands a toy: a hello is
+-- one byte, and a frame is its number and how many letters it has.
 use Rattle.std.specs.Prelude.{◌≡◌, ℕ, Bool, true, ◌&&◌, ◌==◌, List, [], ◌∷◌, ◌++◌, length, replicate, codes, bytes_eq}
 use Rattle.ds_msg.specs.declared.message.Message.{Message}
 use Rattle.ds_model.specs.Keys.{same_key}

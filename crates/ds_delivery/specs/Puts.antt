@@ -2,12 +2,10 @@
 use Rattle.std.specs.Prelude.{◌≡◌, ◌⊎◌, ℕ, List}
 use Rattle.ds_label.specs.declared.category.Category.{Category}
 use Rattle.ds_cert.specs.declared.lane.LaneCert.{LaneCert}
-use Rattle.ds_msg.specs.declared.message.Message.{Message}
 use Rattle.ds_model.specs.Scheme.{Scheme}
 use Rattle.ds_model.specs.Plan.{Plan, conn_plan}
 use Rattle.ds_model.specs.Mailbox.{PutIn}
 use Rattle.ds_model.specs.World.{Mail, World, Passed}
-use Rattle.ds_model.specs.ProcessStep.{mail_of}
 use Rattle.ds_model.specs.Step.{Event, run}
 use Rattle.ds_model.specs.Access.{InBox, access}
 use Rattle.ds_model.specs.Lawful.{PutsHere, PutsFrom}
@@ -24,4 +22,5 @@ pub record IsFrom (s : Scheme) (plan : Plan) (start : World) (h b : ℕ) (mail :
 -- whatever message an event of a run puts into a mailbox, a process of the host puts it there, or a connection does
 abbrev pub EachIsPut : Type 0
 EachIsPut = (s : Scheme) (plan : Plan) (start : World) (before : List Event) (e : Event) (h b : ℕ) (mail : Mail Category) →
-    access s plan (run s plan start before) e h ≡ InBox b (PutIn mail) → ((p : ℕ) × PutsHere s plan start h p b mail before e) ⊎ IsFrom s plan start h b mail before e
+    access s plan (run s plan start before) e h ≡ InBox b (PutIn mail) →
+    ((p : ℕ) × PutsHere s plan start h p b mail before e) ⊎ IsFrom s plan start h b mail before e

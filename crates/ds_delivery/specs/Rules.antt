@@ -1,8 +1,7 @@
--- The rules of each act, one by one, in the order in which they are asked. Each is a fact of labels, ownership, holders and
--- moments, and the rule that is broken where the fact doesn't hold.
-use Rattle.std.specs.Prelude.{ℕ, ◌==◌, Bool, true, false, not, ◌&&◌, ◌||◌, List, [], ◌∷◌, ◌++◌, Option, Some, None, length, find, is_some, option_map, nat_lt, nat_le}
+-- The rules of each act, one by one, in the order in which they are asked. Each is a fact of labels, ownership,
+-- holders and moments, and the rule that is broken where the fact doesn't hold.
+use Rattle.std.specs.Prelude.{ℕ, ◌==◌, Bool, true, false, not, ◌&&◌, ◌||◌, List, [], ◌∷◌, ◌++◌, Option, Some, None, find, is_some, option_map, nat_lt, nat_le}
 use Rattle.std.specs.List.{list_all}
-use Rattle.ds_label.specs.declared.category.PubKey.{PubKey}
 use Rattle.ds_label.specs.declared.category.Category.{Category}
 use Rattle.ds_label.specs.declared.rule.Rule.{Rule}
 use Rattle.ds_label.specs.declared.rule.Rule.TheVariants.{NotKnown, NotFlow, GrantNotOwned, ClearNotHeld, NoLane, NoAddress, PeerNotTrusted, LaneLapsed, WrongHost, WrongLabel, SenderNotTrusted, NoBox, NotFlowToBox, NotFlowToTaker}
@@ -24,8 +23,8 @@ use Rattle.ds_model.specs.ProcessStep.{box_of, lane_of}
 abbrev pub unless_each : (Category → Bool) → (Category → Rule) → List Category → Option Rule
 unless_each passes rule members = option_map rule (find (λ c. not (passes c)) members)
 
--- A SEND, by the sending process: it may use each category; its label flows to the message's under its ownership; it owns what
--- it grants; and it owns or holds the clearance that it grants.
+-- A SEND, by the sending process: it may use each category; its label flows to the message's under its ownership; it
+-- owns what it grants; and it owns or holds the clearance that it grants.
 abbrev pub sending : HostPlan → Process → Message → List (Option Rule)
 sending here x m =
     unless_each (is_known here.key x.names) NotKnown (m.label ++ (m.own ++ m.clear))
@@ -38,24 +37,28 @@ sending here x m =
 abbrev pub leading : HostPlan → Message → List (Option Rule)
 leading here m = unless (is_some (lane_of here m.to m.label)) NoLane ∷ []
 
--- and the sending exporter's rules, at its moment: it has the receiver's address, and the receiver holds each secrecy category
--- of the label
+-- and the sending exporter's rules, at its moment: it has the receiver's address, and the receiver holds each secrecy
+-- category of the label
 abbrev pub releasing : Scheme → Desk → Message → List (Option Rule)
 releasing s d m =
     unless (is_some (s.find d.addresses d.moment m.to)) NoAddress
     ∷ unless_each (λ c. not (is_secrecy c.kind) || s.holds d.store d.moment c m.to) PeerNotTrusted m.label
     ∷ []
 
--- ARRIVAL, by the receiving exporter at its moment: the lane certificate is valid; the message is for this host, and has the
--- lane's label; the sender holds each integrity category of the label, and all that the message grants, by what the receiver
--- keeps and the message carries; and each category has a number on this host.
+-- whether the lane's exporter holds a category, by what the receiver keeps and the message carries
+abbrev pub sender_holds : Scheme → Desk → LaneCert → Message → Category → Bool
+sender_holds s d lane m c = s.holds (d.store ++ carried s m.certs) d.moment c lane.exporter
+
+-- ARRIVAL, by the receiving exporter at its moment: the lane certificate is valid; the message is for this host, and
+-- has the lane's label; the sender holds each integrity category of the label, and all that the message grants, by
+-- what the receiver keeps and the message carries; and each category has a number on this host.
 abbrev pub arriving : Scheme → HostPlan → Desk → LaneCert → Message → List (Option Rule)
 arriving s here d lane m =
     unless (nat_le lane.from d.moment && nat_lt d.moment lane.until) LaneLapsed
     ∷ unless (same_key m.to here.key) WrongHost
     ∷ unless (same_label by_name lane.label m.label) WrongLabel
-    ∷ unless_each (λ c. is_secrecy c.kind || s.holds (d.store ++ carried s m.certs) d.moment c lane.exporter) SenderNotTrusted m.label
-    ∷ unless_each (λ c. s.holds (d.store ++ carried s m.certs) d.moment c lane.exporter) SenderNotTrusted (m.own ++ m.clear)
+    ∷ unless_each (λ c. is_secrecy c.kind || sender_holds s d lane m c) SenderNotTrusted m.label
+    ∷ unless_each (sender_holds s d lane m) SenderNotTrusted (m.own ++ m.clear)
     ∷ unless_each (is_known here.key d.rows) NotKnown (m.label ++ (m.own ++ m.clear))
     ∷ []
 

@@ -1,5 +1,5 @@
 -- A desk that is one entry longer.
-use Rattle.std.specs.Prelude.{unwrap_or}
+use Rattle.std.specs.Prelude.{◌&&◌, unwrap_or}
 use Rattle.lms_sig.specs.Keys.{Key}
 use Rattle.lms_sig.specs.Parameters.{lms_code, ots_code, lms_type, ots_type, both_types, signature_length}
 use Rattle.lms_sig.specs.declared.params.Params.{Params}

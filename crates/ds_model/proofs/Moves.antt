@@ -1,6 +1,6 @@
 -- The numbers of an event's actor tell whether the event changed anything.
-use Rattle.std.proofs.Common.{◌≡◌, ℕ, zero, suc, ◌+◌, Bool, true, false, cond, List, [], ◌∷◌, ◌++◌, Option, Some, None, length, slice_get, option_map, take, min, refl, sym, ◌∙◌, ap, ap₂, subst, arith, append-nil, length-take}
-use Rattle.std.specs.Prelude.{if◌then◌else◌, not, bytes_eq, max, nat_lt}
+use Rattle.std.proofs.Common.{◌≡◌, ℕ, suc, ◌+◌, Bool, true, false, cond, List, [], ◌∷◌, ◌++◌, Option, Some, None, length, slice_get, option_map, take, min, refl, sym, ◌∙◌, ap, subst, arith, append-nil, length-take}
+use Rattle.std.specs.Prelude.{not, bytes_eq, max, nat_lt}
 use Rattle.std.proofs.lemmas.Slice.Eq.{bytes_eq-Decides}
 use Rattle.ds_label.specs.declared.category.Category.{Category}
 use Rattle.ds_label.specs.declared.rule.Rule.{Rule}
@@ -21,16 +21,15 @@ use Rattle.ds_model.specs.Keys.{same_key}
 use Rattle.ds_model.specs.ProcessRules.{can_grant}
 use Rattle.ds_model.specs.Scheme.{Scheme, Item, Hello, Framed, Failure}
 use Rattle.ds_model.specs.Plan.{HostPlan, LanePlan, Plan, Source, Link, OfLane, host_plan, conn_plan, lane_plan}
-use Rattle.ds_model.specs.Mailbox.{put, took, took_with, oldest}
+use Rattle.ds_model.specs.Mailbox.{took, took_with}
 use Rattle.ds_model.specs.Lane.{front, lifted, frame_limit}
-use Rattle.ds_model.specs.Inlet.{Inlet}
-use Rattle.ds_model.specs.Desk.{Desk, DeskEntry, Delegated, Imported, Mapped, Ticked, desk_after, Act, Delegating, Importing, Mapping, import_entry, entry_unless, act_entry, reply_of}
-use Rattle.ds_model.specs.World.{Process, Mail, Mailbox, Waiting, Queue, Worker, Passed, Conn, Host, World}
+use Rattle.ds_model.specs.Desk.{Desk, Delegated, Imported, Mapped, Ticked, desk_after, Act, Delegating, Importing, Mapping, import_entry, entry_unless, act_entry, reply_of}
+use Rattle.ds_model.specs.World.{Process, Mail, Waiting, Queue, Worker, Passed, Conn, Host, World}
 use Rattle.ds_model.specs.ProcessStep.{noted, with_name, granted, Ask, Waits, Internal, Put, Admit, TakeFrom, PublicAct, AsksJudgement, box_of, Target, Not, Into, judge_box, send_rule, send_here, send_away, message_of, take_rule, take_from, relabel, make, publish, ask_outer, ask_inner, lane_of, queue_at, ask_hand, ask, taken_after_reply, act_course, act_after_reply, judged_after_reply}
 use Rattle.ds_model.specs.WorkerStep.{LaneAsk, WorkerWaits, Lifts, AsksRecheck, lane_ask_hand, lane_ask, rechecked, still_good, with_frame, lifted_after_reply, checked_after_reply}
 use Rattle.ds_model.specs.ConnectionStep.{ConnAsk, ConnWaits, ConnInternal, AsksInlet, AsksArrival, PutsPassed, arrive, peer, inlet_of, fresh_frame, stale_frame, take_frame, frame_from, fail, accept_item, accept_free, accept, put_passed, deliver_to, deliver_from, deliver, judge_delivery, delivery_after_reply}
-use Rattle.ds_model.specs.Step.{Event, Step, Frame, Arrive, Accept, Deliver, Tick, Inject, Copy, HostAndConn, oldest_in, judged, attached, perform, step_proc, front_of, worker_at, perform_lane, step_lane, fresh_in, perform_conn, stream_of, arrived, injected, with_ends, step_conn, ticked, on_host, on_conn, resolve, happens, step}
-use Rattle.ds_model.specs.Views.{proc_in, desk_at}
+use Rattle.ds_model.specs.Step.{Event, Step, Frame, Arrive, Accept, Deliver, Tick, Inject, Copy, oldest_in, judged, attached, perform, step_proc, front_of, worker_at, perform_lane, step_lane, fresh_in, perform_conn, stream_of, arrived, injected, with_ends, step_conn, ticked, on_host, on_conn, step}
+use Rattle.ds_model.specs.Views.{proc_in}
 use Rattle.ds_model.specs.Schedule.{how_many, proc_numbers, worker_numbers, conn_numbers, desk_numbers, numbers_of, changes, FindsStill, SomeSchedule}
 use Rattle.ds_model.proofs.Places.{at_here, at_still, cond_case, none_some, some_is}
 

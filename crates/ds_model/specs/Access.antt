@@ -212,22 +212,27 @@ entries_of own [] = []
 entries_of own (t ∷ ts) = own t ++ entries_of own ts
 
 -- an object's state after a run is the replay of the run's own entries from its state before, each where it may stand
-abbrev pub Replayed : {S E : Type 0} → Scheme → Plan → (host : ℕ) → (Objects → Option S) → (Access → List E) → (S → E → Option S) → World → List Event → Type 0
+abbrev pub Replayed : {S E : Type 0} → Scheme → Plan → (host : ℕ) → (Objects → Option S) → (Access → List E) →
+    (S → E → Option S) → World → List Event → Type 0
 Replayed s plan h state own step w events =
     onward (onward (objects_at w h) state) (λ x. replay step x (entries_of own (accesses s plan w events h))) ≡ onward (objects_at (run s plan w events) h) state
 
 -- each mailbox
 abbrev pub BoxesReplay : Type 0
-BoxesReplay = (s : Scheme) (plan : Plan) (w : World) (events : List Event) (h b : ℕ) → Replayed s plan h (box_state b) (box_entry b) (box_step (box_plan (host_plan plan h) b).room) w events
+BoxesReplay = (s : Scheme) (plan : Plan) (w : World) (events : List Event) (h b : ℕ) →
+    Replayed s plan h (box_state b) (box_entry b) (box_step (box_plan (host_plan plan h) b).room) w events
 
 -- each lane's waiting list
 abbrev pub LanesReplay : Type 0
-LanesReplay = (s : Scheme) (plan : Plan) (w : World) (events : List Event) (h l : ℕ) → Replayed s plan h (lane_state l) (lane_entry l) (lane_step (lane_plan (host_plan plan h) l).room) w events
+LanesReplay = (s : Scheme) (plan : Plan) (w : World) (events : List Event) (h l : ℕ) →
+    Replayed s plan h (lane_state l) (lane_entry l) (lane_step (lane_plan (host_plan plan h) l).room) w events
 
 -- each inlet
 abbrev pub InletsReplay : Type 0
-InletsReplay = (s : Scheme) (plan : Plan) (w : World) (events : List Event) (h i : ℕ) → Replayed s plan h (inlet_state i) (inlet_entry i) inlet_step w events
+InletsReplay = (s : Scheme) (plan : Plan) (w : World) (events : List Event) (h i : ℕ) →
+    Replayed s plan h (inlet_state i) (inlet_entry i) inlet_step w events
 
 -- each desk
 abbrev pub DesksReplay : Type 0
-DesksReplay = (s : Scheme) (plan : Plan) (w : World) (events : List Event) (h : ℕ) → Replayed s plan h desk_state desk_entry (desk_step s (host_plan plan h)) w events
+DesksReplay = (s : Scheme) (plan : Plan) (w : World) (events : List Event) (h : ℕ) →
+    Replayed s plan h desk_state desk_entry (desk_step s (host_plan plan h)) w events

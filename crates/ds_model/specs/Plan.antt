@@ -109,6 +109,10 @@ host_plan plan h = with_keys (all_keys plan) (get_or plan.hosts h no_host)
 abbrev pub conn_plan : Plan → ℕ → ConnPlan
 conn_plan plan k = get_or plan.conn_plans k no_wire
 
+-- the host to which connection k leads
+abbrev pub receiving_host : Plan → ℕ → HostPlan
+receiving_host plan k = host_plan plan (conn_plan plan k).host
+
 -- mailbox b of a host
 abbrev pub box_plan : HostPlan → ℕ → BoxPlan
 box_plan plan b = get_or plan.boxes b no_box

@@ -1,6 +1,6 @@
 -- A process in two parts: what it asks of at most one shared object, and what it becomes by the answer.
 -- Where it may not learn the answer, what it becomes stands in what it asks: a sender learns nothing of room.
-use Rattle.std.specs.Prelude.{ℕ, suc, ◌+◌, ◌*◌, ◌^◌, ◌==◌, ◌&&◌, Bool, List, [], ◌∷◌, ◌++◌, Option, Some, None, length, position, slice_get, if◌then◌else◌}
+use Rattle.std.specs.Prelude.{ℕ, suc, ◌==◌, ◌&&◌, Bool, List, [], ◌∷◌, ◌++◌, Option, Some, None, length, position, slice_get, if◌then◌else◌}
 use Rattle.ds_label.specs.declared.category.Kind.{Kind}
 use Rattle.ds_label.specs.declared.category.Category.{Category}
 use Rattle.ds_label.specs.declared.category.PubKey.{PubKey}

@@ -11,9 +11,9 @@ use Rattle.ds_model.specs.WorkerStep.{LaneAsk, WorkerWaits, Lifts, AsksRecheck, 
 use Rattle.ds_model.specs.ConnectionStep.{ConnAsk, ConnWaits, ConnInternal, AsksInlet, AsksArrival, PutsPassed, judge_delivery, delivery_after_reply}
 use Rattle.ds_model.specs.Step.{perform, perform_lane, perform_conn, oldest_in, front_of, fresh_in, judged, attached}
 
--- nothing; a mailbox's oldest message; the desk's reply to an act; its judgement of a send, with the certificates that go
--- with it; the first waiting messages; its judgement of each message in a worker's hand; whether a number is fresh; the
--- judgement of an arrival
+-- nothing; a mailbox's oldest message; the desk's reply to an act; its judgement of a send, with the certificates
+-- that go with it; the first waiting messages; its judgement of each message in a worker's hand; whether a number is
+-- fresh; the judgement of an arrival
 pub data ActorReply : Type 0 where
   Nothing : ActorReply
   Oldest : Option (Mail Category) → ActorReply
@@ -80,12 +80,15 @@ conn_after_reply _ _ k = k
 
 -- a process becomes what it is told
 abbrev pub ProcessesTold : Type 0
-ProcessesTold = (s : Scheme) (plan : HostPlan) (x : Host) (p : ℕ) (a : Ask) → slice_get (perform s plan x p a).procs p ≡ option_map (proc_after_reply a (proc_reply s plan x a)) (slice_get x.procs p)
+ProcessesTold = (s : Scheme) (plan : HostPlan) (x : Host) (p : ℕ) (a : Ask) →
+    slice_get (perform s plan x p a).procs p ≡ option_map (proc_after_reply a (proc_reply s plan x a)) (slice_get x.procs p)
 
 -- so does a lane's worker
 abbrev pub WorkersTold : Type 0
-WorkersTold = (s : Scheme) (plan : HostPlan) (x : Host) (l : ℕ) (a : LaneAsk) → slice_get (perform_lane s plan x l a).workers l ≡ option_map (worker_after_reply s plan l a (worker_reply s x l a)) (slice_get x.workers l)
+WorkersTold = (s : Scheme) (plan : HostPlan) (x : Host) (l : ℕ) (a : LaneAsk) →
+    slice_get (perform_lane s plan x l a).workers l ≡ option_map (worker_after_reply s plan l a (worker_reply s x l a)) (slice_get x.workers l)
 
 -- and a connection
 abbrev pub ConnectionsTold : Type 0
-ConnectionsTold = (s : Scheme) (plan : HostPlan) (x : Host) (k : Conn) (a : ConnAsk) → (perform_conn s plan x k a).conn ≡ conn_after_reply a (conn_reply s plan x a) k
+ConnectionsTold = (s : Scheme) (plan : HostPlan) (x : Host) (k : Conn) (a : ConnAsk) →
+    (perform_conn s plan x k a).conn ≡ conn_after_reply a (conn_reply s plan x a) k

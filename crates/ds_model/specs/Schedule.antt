@@ -1,8 +1,8 @@
 -- The canonical schedule: the events of a document that lists none. It goes in rounds. A round has, for each host in
 -- order, a step of each process once and then a frame of each lane twice running; and then, for each connection, the
--- arrival of all that is left, and an accept once and then deliveries as long as they change something, in turn, until
--- neither changes anything. What is still is left out. It ends after a round that kept nothing, and is cut, also in the
--- middle of a round, where it has as many events as the budget.
+-- arrival of all that is left, and an accept once and then deliveries as long as they change something, in turn,
+-- until neither changes anything. What is still is left out. It ends after a round that kept nothing, and is cut,
+-- also in the middle of a round, where it has as many events as the budget.
 use Rattle.std.specs.Prelude.{◌≡◌, ◌↔◌, ℕ, zero, suc, ◌-◌, ◌==◌, ◌||◌, Bool, false, not, List, [], ◌∷◌, ◌++◌, length, slice_get, Option, Some, None, bytes_eq, if◌then◌else◌}
 use Rattle.ds_model.specs.Lists.{gathered}
 use Rattle.ds_model.specs.Scheme.{Scheme}
@@ -37,8 +37,8 @@ abbrev pub worker_numbers : Option Worker → List ℕ
 worker_numbers None = []
 worker_numbers (Some e) = length e.hand ∷ []
 
--- how many bytes a link has and how many arrived, how many items were taken, how many messages are in hand, and whether
--- one is passed and whether the connection failed
+-- how many bytes a link has and how many arrived, how many items were taken, how many messages are in hand, and
+-- whether one is passed and whether the connection failed
 abbrev pub conn_numbers : Option Conn → List ℕ
 conn_numbers None = []
 conn_numbers (Some y) = length y.link ∷ y.count ∷ y.taken ∷ length y.hand ∷ how_many y.passed ∷ how_many y.failed ∷ []
@@ -151,8 +151,10 @@ pub record IsCanonical (s : Scheme) (plan : Plan) (budget : ℕ) (w : World) (ev
 
 -- each world has a canonical schedule
 abbrev pub SomeSchedule : Type 0
-SomeSchedule = (s : Scheme) (plan : Plan) (budget : ℕ) (w : World) → IsCanonical s plan budget w (canonical (changes s plan) s plan budget w)
+SomeSchedule = (s : Scheme) (plan : Plan) (budget : ℕ) (w : World) →
+    IsCanonical s plan budget w (canonical (changes s plan) s plan budget w)
 
 -- and one alone
 abbrev pub OneSchedule : Type 0
-OneSchedule = (s : Scheme) (plan : Plan) (budget : ℕ) (w : World) (one two : List Event) → IsCanonical s plan budget w one → IsCanonical s plan budget w two → one ≡ two
+OneSchedule = (s : Scheme) (plan : Plan) (budget : ℕ) (w : World) (one two : List Event) →
+    IsCanonical s plan budget w one → IsCanonical s plan budget w two → one ≡ two

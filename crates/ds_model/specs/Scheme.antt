@@ -1,4 +1,5 @@
--- What the plain world leaves open: signatures, chains of delegations, and spelling. A scheme gives these as functions.
+-- What the plain world leaves open: signatures, chains of delegations, and spelling. A scheme gives these as
+-- functions.
 use Rattle.std.specs.Prelude.{ℕ, Bool, List, Option}
 use Rattle.ds_label.specs.declared.category.PubKey.{PubKey}
 use Rattle.ds_label.specs.declared.category.Category.{Category}
@@ -8,7 +9,8 @@ use Rattle.ds_cert.specs.declared.lane.LaneCert.{LaneCert}
 use Rattle.ds_cert.specs.declared.cert.Cert.{Cert}
 use Rattle.ds_msg.specs.declared.message.Message.{Message}
 
--- a key that signs: the numbers of its LMS and LM-OTS types (RFC 8554, sections 5.1 and 4.1), its secret seed and its identifier
+-- a key that signs: the numbers of its LMS and LM-OTS types (RFC 8554, sections 5.1 and 4.1), its secret seed and its
+-- identifier
 pub record SigningKey : Type 0 where
   pub tree : ℕ
   pub chains : ℕ
@@ -34,13 +36,15 @@ pub record Failure : Type 0 where
   pub cause : ℕ
   pub place : ℕ
 
--- what each of these functions must give stands beside it; the concrete ones are defined with the crates of signatures, chains and formats
+-- what each of these functions must give stands beside it; the concrete ones are defined with the crates of
+-- signatures, chains and formats
 pub record Scheme : Type 0 where
   -- whether a certificate's signature is good under the key of the exporter that it names as its signer
   pub good : Delegation → Bool
   pub good_address : Address → Bool
   pub good_lane : LaneCert → Bool
-  -- whether the key acts for the category by these delegations, each valid at the moment and good, from the creator on
+  -- whether the key acts for the category by these delegations, each valid at the moment and good, from the creator
+  -- on
   pub holds : List Delegation → (moment : ℕ) → Category → PubKey → Bool
   -- the shortest such chain of delegations; empty for the creator, and where the key doesn't hold
   pub chain : List Delegation → (moment : ℕ) → Category → PubKey → List Delegation
@@ -57,7 +61,8 @@ pub record Scheme : Type 0 where
   -- the spelled hello of a lane, and a spelled frame with the signature at the leaf that is its number
   pub hello : LaneCert → List ℕ
   pub frame : LaneKey → (leaf : ℕ) → List Message → List ℕ
-  -- what a host with this key and these inlets reads of a stream, up to the first fault; and the fault, where the rest can't be read on
+  -- what a host with this key and these inlets reads of a stream, up to the first fault; and the fault, where the
+  -- rest can't be read on
   pub items : PubKey → List InletName → List ℕ → List Item
   pub ending : PubKey → List InletName → List ℕ → Option Failure
   -- whether a frame with this number and these messages stands in the stream, with a good signature under the key

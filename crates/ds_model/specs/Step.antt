@@ -1,10 +1,11 @@
--- One event, and a run. An event is one step of one actor: a process, a lane's worker, a connection, a host's clock, or
--- an outsider who writes on a link. An event on what doesn't exist, and one that finds nothing to do, leaves the world as it is.
+-- One event, and a run. An event is one step of one actor: a process, a lane's worker, a connection, a host's clock,
+-- or an outsider who writes on a link. An event on what doesn't exist, and one that finds nothing to do, leaves the
+-- world as it is.
 use Rattle.std.specs.Prelude.{ℕ, List, [], ◌∷◌, ◌++◌, Option, Some, None, take, drop, slice_get, Bool, false, if◌then◌else◌}
 use Rattle.ds_label.specs.declared.category.Category.{Category}
 use Rattle.ds_model.specs.Lists.{at}
 use Rattle.ds_model.specs.Scheme.{Scheme}
-use Rattle.ds_model.specs.Plan.{HostPlan, Plan, Source, Link, OfLane, host_plan, conn_plan, box_plan, lane_plan}
+use Rattle.ds_model.specs.Plan.{HostPlan, Plan, Source, Link, OfLane, host_plan, receiving_host, conn_plan, box_plan, lane_plan}
 use Rattle.ds_model.specs.Mailbox.{put, oldest, took}
 use Rattle.ds_model.specs.Lane.{admit_entry, admit, front, lifted}
 use Rattle.ds_model.specs.Inlet.{Inlet, is_fresh, numbered}
@@ -58,11 +59,26 @@ attached s plan d m = attach s d.store d.moment plan.key m.label m.own m.clear
 abbrev pub perform : Scheme → HostPlan → Host → ℕ → Ask → Host
 perform s plan x p Waits = x
 perform s plan x p (Internal next) = record x { procs = at p (λ _. next) x.procs }
-perform s plan x p (Put b m next) = record x { procs = at p (λ _. next) x.procs; boxes = at b (put (box_plan plan b).room m) x.boxes }
-perform s plan x p (Admit l m next) = record x { procs = at p (λ _. next) x.procs; queues = at l (admit (lane_plan plan l).room (record { sender = p; message = m })) x.queues; logs = at l (lined (admitted_lines (lane_plan plan l).room (record { sender = p; message = m }) (slice_get x.queues l))) x.logs }
-perform s plan x p (TakeFrom b reg slot) = record x { procs = at p (taken_after_reply reg slot (oldest_in (slice_get x.boxes b))) x.procs; boxes = at b took x.boxes }
-perform s plan x p (PublicAct act reg host) = record x { desk = desk_after plan.key (act_entry s plan x.desk act) x.desk; procs = at p (act_after_reply reg host act (reply_of s plan x.desk (act_entry s plan x.desk act))) x.procs }
-perform s plan x p (AsksJudgement m) = record x { procs = at p (judged_after_reply m (attached s plan x.desk m) (judged s plan x.desk m)) x.procs }
+perform s plan x p (Put b m next) = record x {
+  procs = at p (λ _. next) x.procs;
+  boxes = at b (put (box_plan plan b).room m) x.boxes;
+}
+perform s plan x p (Admit l m next) = record x {
+  procs = at p (λ _. next) x.procs;
+  queues = at l (admit (lane_plan plan l).room (record { sender = p; message = m })) x.queues;
+  logs = at l (lined (admitted_lines (lane_plan plan l).room (record { sender = p; message = m }) (slice_get x.queues l))) x.logs;
+}
+perform s plan x p (TakeFrom b reg slot) = record x {
+  procs = at p (taken_after_reply reg slot (oldest_in (slice_get x.boxes b))) x.procs;
+  boxes = at b took x.boxes;
+}
+perform s plan x p (PublicAct act reg host) = record x {
+  desk = desk_after plan.key (act_entry s plan x.desk act) x.desk;
+  procs = at p (act_after_reply reg host act (reply_of s plan x.desk (act_entry s plan x.desk act))) x.procs;
+}
+perform s plan x p (AsksJudgement m) = record x {
+  procs = at p (judged_after_reply m (attached s plan x.desk m) (judged s plan x.desk m)) x.procs;
+}
 
 -- the host after a step of process p, where there is one
 abbrev pub step_proc : Scheme → HostPlan → Host → ℕ → Option Process → Host
@@ -84,7 +100,10 @@ checked_in rules (Some e) = checked_lines rules e
 -- the host after the worker of lane l asked
 abbrev pub perform_lane : Scheme → HostPlan → Host → ℕ → LaneAsk → Host
 perform_lane s plan x l WorkerWaits = x
-perform_lane s plan x l Lifts = record x { queues = at l lifted x.queues; workers = at l (lifted_after_reply (front_of (slice_get x.queues l))) x.workers }
+perform_lane s plan x l Lifts = record x {
+  queues = at l lifted x.queues;
+  workers = at l (lifted_after_reply (front_of (slice_get x.queues l))) x.workers;
+}
 perform_lane s plan x l (AsksRecheck hand) = record x {
   workers = at l (checked_after_reply s (lane_plan plan l) (rechecked s x.desk hand)) x.workers;
   logs = at l (lined (checked_in (rechecked s x.desk hand) (slice_get x.workers l))) x.logs;
@@ -111,9 +130,18 @@ fresh_in number (Some i) = is_fresh number i
 abbrev pub perform_conn : Scheme → HostPlan → Host → Conn → ConnAsk → HostAndConn
 perform_conn s plan x k ConnWaits = record { host = x; conn = k }
 perform_conn s plan x k (ConnInternal next) = record { host = x; conn = next }
-perform_conn s plan x k (AsksInlet i number fresh stale) = record { host = record x { inlets = at i (numbered number) x.inlets }; conn = if fresh_in number (slice_get x.inlets i) then fresh else stale }
-perform_conn s plan x k (AsksArrival lane m rest) = record { host = x; conn = delivery_after_reply lane m rest (judge_delivery s plan x.desk lane m) k }
-perform_conn s plan x k (PutsPassed b m next) = record { host = record x { boxes = at b (put (box_plan plan b).room m) x.boxes }; conn = next }
+perform_conn s plan x k (AsksInlet i number fresh stale) = record {
+  host = record x { inlets = at i (numbered number) x.inlets };
+  conn = if fresh_in number (slice_get x.inlets i) then fresh else stale;
+}
+perform_conn s plan x k (AsksArrival lane m rest) = record {
+  host = x;
+  conn = delivery_after_reply lane m rest (judge_delivery s plan x.desk lane m) k;
+}
+perform_conn s plan x k (PutsPassed b m next) = record {
+  host = record x { boxes = at b (put (box_plan plan b).room m) x.boxes };
+  conn = next;
+}
 
 -- the stream that a connection reads: a link's own, or the lane's
 
@@ -191,8 +219,12 @@ abbrev pub happens : Scheme → Plan → World → Event → World
 happens s plan w (Step h p) = on_host h (λ x. step_proc s (host_plan plan h) x p (slice_get x.procs p)) w
 happens s plan w (Frame h l) = on_host h (λ x. step_lane s (host_plan plan h) x l (slice_get x.workers l)) w
 happens s plan w (Arrive k n) = on_conn k (λ conn. arrive (stream_of w (conn_plan plan k).source conn) n conn) w
-happens s plan w (Accept k) = step_conn s plan w (conn_plan plan k).host k (λ conn. accept s (host_plan plan (conn_plan plan k).host) conn (arrived w (conn_plan plan k).source conn)) (slice_get w.hosts (conn_plan plan k).host) (slice_get w.conns k)
-happens s plan w (Deliver k) = step_conn s plan w (conn_plan plan k).host k (λ conn. deliver s (host_plan plan (conn_plan plan k).host) conn (arrived w (conn_plan plan k).source conn)) (slice_get w.hosts (conn_plan plan k).host) (slice_get w.conns k)
+happens s plan w (Accept k) =
+    step_conn s plan w (conn_plan plan k).host k (λ conn. accept s (receiving_host plan k) conn (arrived w (conn_plan plan k).source conn))
+    (slice_get w.hosts (conn_plan plan k).host) (slice_get w.conns k)
+happens s plan w (Deliver k) =
+    step_conn s plan w (conn_plan plan k).host k (λ conn. deliver s (receiving_host plan k) conn (arrived w (conn_plan plan k).source conn))
+    (slice_get w.hosts (conn_plan plan k).host) (slice_get w.conns k)
 happens s plan w (Tick h t) = on_host h (ticked (host_plan plan h) t) w
 happens s plan w (Inject k bytes) = on_conn k (injected (conn_plan plan k).source bytes) w
 happens s plan w (Copy k j from until) = w

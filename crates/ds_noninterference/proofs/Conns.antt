@@ -14,7 +14,7 @@ use Rattle.ds_model.specs.Plan.{HostPlan, Plan, host_plan, box_plan, inlet_name,
 use Rattle.ds_model.specs.Mailbox.{put}
 use Rattle.ds_model.specs.Inlet.{Inlet, numbered}
 use Rattle.ds_model.specs.World.{Mail, Mailbox, Conn, Host, Passed}
-use Rattle.ds_model.specs.ProcessStep.{box_of, mail_of}
+use Rattle.ds_model.specs.ProcessStep.{box_of}
 use Rattle.ds_model.specs.ConnectionStep.{ConnAsk, ConnWaits, ConnInternal, AsksInlet, AsksArrival, PutsPassed, hello_of, peer, inlet_of, take_frame, frame_from, fail, accept_item, accept_free, accept, put_passed, deliver_to, deliver_from, deliver, judge_delivery, delivery_after_reply}
 use Rattle.ds_model.specs.Step.{fresh_in, perform_conn}
 use Rattle.ds_noninterference.specs.High.{is_in, high_box, high_inlet}

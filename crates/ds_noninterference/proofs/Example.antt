@@ -137,14 +137,17 @@ alike = record { hosts = alike_at; conns = λ k. inl refl }
 
 pub met : PremisesHold
 unfolding always unissued is_none Rattle.ds_label.specs.Flow.flows Rattle.ds_label.specs.Flow.union
-met = (scheme, record {
-  secret = refl;
-  fits = fits;
-  start_one = start first_script;
-  start_two = start second_script;
-  agree = record { start = alike; same_marks = refl };
-  obeys_one = obeys (pair_world first_script) first_events refl;
-  obeys_two = obeys (pair_world second_script) second_events refl;
-  unforged_one = all_unforged (pair_world first_script) first_events;
-  unforged_two = all_unforged (pair_world second_script) second_events;
-})
+met = (
+  scheme,
+  record {
+    secret = refl;
+    fits = fits;
+    start_one = start first_script;
+    start_two = start second_script;
+    agree = record { start = alike; same_marks = refl };
+    obeys_one = obeys (pair_world first_script) first_events refl;
+    obeys_two = obeys (pair_world second_script) second_events refl;
+    unforged_one = all_unforged (pair_world first_script) first_events;
+    unforged_two = all_unforged (pair_world second_script) second_events;
+  },
+)

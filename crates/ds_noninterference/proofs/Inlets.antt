@@ -1,5 +1,5 @@
 -- The test that an inlet is high, as facts.
-use Rattle.std.proofs.Common.{◌≡◌, ◌<◌, ℕ, zero, suc, Bool, true, false, List, ◌||◌, length, refl, ◌∙◌, ap, ◌⊎◌, inl, inr, arith, sym, eqb-true, eq-eqb}
+use Rattle.std.proofs.Common.{◌≡◌, ◌<◌, ℕ, zero, suc, Bool, true, List, ◌||◌, length, ◌∙◌, ap, ◌⊎◌, inl, inr, arith, sym, eqb-true, eq-eqb}
 use native.Mathlib.Decide.{ℕ_discrete}
 use Rattle.ds_label.specs.declared.category.Category.{Category}
 use Rattle.ds_model.specs.Plan.{Plan, host_plan, lane_plan, inlet_name}

@@ -1,26 +1,22 @@
 -- The network's two runs meet the premises of the law.
-use Rattle.std.proofs.Common.{◌≡◌, ◌≢◌, ◌<◌, ℕ, zero, suc, Bool, true, false, cond, eqb, List, [], ◌∷◌, ◌++◌, ◌&&◌, ◌||◌, Option, Some, None, slice_get, length, take, map, Contains, refl, sym, ◌∙◌, ap, subst, ◌⊎◌, inl, inr, arith}
-use Rattle.std.specs.List.{list_any, list_all}
+use Rattle.std.proofs.Common.{◌≡◌, ◌<◌, ℕ, zero, suc, Bool, true, false, cond, eqb, List, [], ◌∷◌, ◌++◌, ◌||◌, Option, Some, None, slice_get, take, map, Contains, refl, sym, ◌∙◌, ap, subst, ◌⊎◌, inl, inr, arith}
+use Rattle.std.specs.List.{list_any}
 use Rattle.ds_label.specs.declared.category.PubKey.{PubKey}
 use Rattle.ds_label.specs.declared.category.Category.{Category}
-use Rattle.ds_label.specs.Names.{same_category}
 use Rattle.ds_cert.specs.declared.delegation.Delegation.{Delegation}
 use Rattle.ds_cert.specs.declared.lane.LaneCert.{LaneCert}
-use Rattle.ds_msg.specs.declared.message.Message.{Message}
 use Rattle.ds_script.specs.declared.op.Op.{Op}
 use Rattle.ds_model.specs.Keys.{same_key}
-use Rattle.ds_model.specs.Scheme.{Item, Hello, Framed}
 use Rattle.ds_model.specs.Plan.{HostPlan, Link, OfLane, IsHost, IsLane, host_plan, conn_plan, lane_plan}
 use Rattle.ds_model.specs.ConnectionStep.{peer, hello_of}
 use Rattle.ds_model.specs.World.{Process, Queue, Worker, Conn, Host, World}
 use Rattle.ds_model.specs.Setup.{IsSetup}
 use Rattle.ds_model.specs.Step.{Event, step, arrived}
-use Rattle.ds_model.specs.Examples.OneHost.{new_conn}
 use Rattle.ds_noninterference.specs.High.{is_in, high_at, high_lane, IsTrusted}
 use Rattle.ds_noninterference.specs.Observations.{Along, marks}
 use Rattle.ds_noninterference.specs.Alike.{Alike, AlikeAt, AlikeWorlds}
 use Rattle.ds_noninterference.specs.Premises.{IsScheme, Fits, Obeys, Unforged, NothingForged, IssuesInside}
-use Rattle.ds_noninterference.specs.Network.{a_key, b_key, x_key, secret, to_b, high_cert, low_cert, own_cert, cert_of, frames_on, items_if, items_by, net_items, names_key, net_scheme, a_host, b_host, x_host, net, both, a_world, b_world, x_world, proc, net_world, yes_script, no_script, yes_events, no_events, IsNetMet}
+use Rattle.ds_noninterference.specs.Network.{a_key, b_key, x_key, secret, to_b, high_cert, low_cert, own_cert, cert_of, items_if, items_by, names_key, net_scheme, net, both, a_world, b_world, x_world, net_world, yes_script, no_script, yes_events, no_events, IsNetMet}
 use Rattle.ds_noninterference.proofs.Flow.{and_left, and_right, or_cases, same_key_is, same_category_is}
 
 none_some : {X : Type 0} (x : X) → None ≡ Some x → ⊥
@@ -327,14 +323,17 @@ unfolding Rattle.ds_label.specs.Flow.flows Rattle.ds_label.specs.Flow.same_label
 same_marks = refl
 
 pub met : IsNetMet
-met = (scheme, record {
-  secret = refl;
-  fits = fits;
-  start_one = start yes_script;
-  start_two = start no_script;
-  agree = record { start = alike; same_marks = same_marks };
-  obeys_one = obeys (net_world yes_script) yes_events yes_along;
-  obeys_two = obeys (net_world no_script) no_events no_along;
-  unforged_one = unforged (net_world yes_script) yes_events yes_along;
-  unforged_two = unforged (net_world no_script) no_events no_along;
-})
+met = (
+  scheme,
+  record {
+    secret = refl;
+    fits = fits;
+    start_one = start yes_script;
+    start_two = start no_script;
+    agree = record { start = alike; same_marks = same_marks };
+    obeys_one = obeys (net_world yes_script) yes_events yes_along;
+    obeys_two = obeys (net_world no_script) no_events no_along;
+    unforged_one = unforged (net_world yes_script) yes_events yes_along;
+    unforged_two = unforged (net_world no_script) no_events no_along;
+  },
+)

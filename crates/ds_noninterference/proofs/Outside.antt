@@ -1,7 +1,6 @@
 -- Worlds that are equal but for what is high have equal sections outside.
-use Rattle.std.proofs.Common.{◌≡◌, ◌<◌, ℕ, zero, suc, Bool, true, false, List, [], ◌∷◌, ◌++◌, ◌||◌, Option, Some, None, slice_get, take, length, refl, sym, ◌∙◌, ap, ap₂, ◌⊎◌, inl, inr, arith, eq-eqb}
+use Rattle.std.proofs.Common.{◌≡◌, ℕ, Bool, true, false, List, [], ◌∷◌, ◌++◌, Option, Some, None, slice_get, take, length, refl, sym, ◌∙◌, ap, ap₂, ◌⊎◌, inl, inr, arith}
 use Rattle.std.specs.Prelude.{if◌then◌else◌}
-use native.Mathlib.Decide.{ℕ_discrete}
 use Rattle.ds_label.specs.declared.category.Category.{Category}
 use Rattle.ds_label.specs.Names.{is_secrecy}
 use Rattle.ds_model.specs.Scheme.{Scheme}
@@ -16,10 +15,10 @@ use Rattle.ds_model.specs.Text.{Format, section, lane_section, sections, host_se
 use Rattle.ds_noninterference.specs.Outside.{high_box_in, high_hidden, outside_sections}
 use Rattle.ds_noninterference.specs.Law.{AtEnd, SameSections}
 use Rattle.ds_noninterference.proofs.Views.{gathered_same, laws}
-use Rattle.ds_noninterference.proofs.Flow.{and_both, or_left, or_right, not_both, key_same}
+use Rattle.ds_noninterference.proofs.Flow.{not_both}
 use Rattle.ds_noninterference.proofs.Events.{same_conns, same_stream}
 use Rattle.ds_noninterference.proofs.Relation.{high_same, box_same}
-use Rattle.ds_noninterference.proofs.Setting.{Setting, lane_within, host_within, setting}
+use Rattle.ds_noninterference.proofs.Setting.{Setting, setting}
 
 -- sections that are hidden alike, and equal where they aren't hidden
 sections_same : (hidden hidden' : ℕ → Bool) (text text' : ℕ → List (List ℕ)) (n : ℕ) → ((i : ℕ) → hidden i ≡ hidden' i) → ((i : ℕ) → hidden i ≡ false → text i ≡ text' i) → sections hidden text n ≡ sections hidden' text' n

@@ -1,9 +1,9 @@
 -- Only an owner of the category releases.
-use Rattle.std.proofs.Common.{◌≡◌, ℕ, Bool, true, false, cond, List, [], ◌∷◌, ◌&&◌, ◌||◌, Option, Some, None, slice_get, option_map, refl, sym, ◌∙◌, ap, subst, ◌⊎◌, inl, inr, arith}
+use Rattle.std.proofs.Common.{◌≡◌, ℕ, Bool, true, false, cond, List, [], ◌∷◌, ◌||◌, Option, Some, None, slice_get, option_map, refl, sym, ◌∙◌, ap, subst, ◌⊎◌, inl, inr, arith}
 use Rattle.ds_label.specs.declared.category.Category.{Category}
 use Rattle.ds_label.specs.declared.rule.Rule.{Rule}
 use Rattle.ds_label.specs.declared.rule.Rule.TheVariants.{NotPublic}
-use Rattle.ds_label.specs.Flow.{has, flows, union}
+use Rattle.ds_label.specs.Flow.{has, union}
 use Rattle.ds_label.specs.Names.{is_secrecy, by_name}
 use Rattle.ds_script.specs.declared.op.Op.{Op}
 use Rattle.ds_script.specs.declared.op.Op.TheVariants as ops
@@ -13,15 +13,15 @@ use Rattle.ds_model.specs.Keys.{same_key}
 use Rattle.ds_model.specs.ProcessRules.{can_grant}
 use Rattle.ds_model.specs.Scheme.{Scheme}
 use Rattle.ds_model.specs.Plan.{HostPlan, Plan, host_plan, conn_plan}
-use Rattle.ds_model.specs.Desk.{Act, Reply, act_entry, reply_of, Ticked, desk_after}
+use Rattle.ds_model.specs.Desk.{Act, act_entry, reply_of, Ticked, desk_after}
 use Rattle.ds_model.specs.World.{Process, Mail, Conn, Host, World}
 use Rattle.ds_model.specs.ProcessStep.{Ask, Waits, Internal, Put, Admit, TakeFrom, PublicAct, AsksJudgement, box_of, Target, Not, Into, judge_box, send_rule, send_here, send_away, message_of, take_rule, take_from, relabel, make, publish, publish_rule, ask_outer, ask_inner, lane_of, queue_at, ask_hand, ask, taken_after_reply, act_after_reply, judged_after_reply}
 use Rattle.ds_model.specs.WorkerStep.{LaneAsk, WorkerWaits, Lifts, AsksRecheck, lane_ask}
 use Rattle.ds_model.specs.ConnectionStep.{ConnAsk, ConnWaits, ConnInternal, AsksInlet, AsksArrival, PutsPassed, accept, deliver}
 use Rattle.ds_model.specs.Step.{Event, Step, Frame, Arrive, Accept, Deliver, Tick, Inject, Copy, arrived, oldest_in, judged, attached, perform, step_proc, perform_lane, step_lane, perform_conn, step_conn, ticked, on_host, resolve, happens, step, run}
-use Rattle.ds_model.specs.Views.{proc_in, proc_at, desk_at}
+use Rattle.ds_model.specs.Views.{proc_in, proc_at}
 use Rattle.ds_noninterference.specs.High.{is_in, high_proc, high_lane, high_conn}
-use Rattle.ds_noninterference.specs.Observations.{Released, Mark, Release, High, Low, unless_has, ToBox, ToLane, released, mark_released, mark_proc, high_or, mark_of}
+use Rattle.ds_noninterference.specs.Observations.{Released, Release, Low, unless_has, ToBox, ToLane, released, mark_released, mark_proc, high_or, mark_of}
 use Rattle.ds_noninterference.specs.Owners.{OnlyOwnersRelease, OnlyOwnersAct}
 use Rattle.ds_model.proofs.Places.{at_here, cond_case, some_is, none_some}
 use Rattle.ds_noninterference.proofs.Flow.{and_right, or_cases, flows_carries}

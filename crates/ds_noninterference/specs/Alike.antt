@@ -21,7 +21,8 @@ abbrev pub AlikeProcs : Category → (t : Bool) → List Process → List Proces
 AlikeProcs c t = Everywhere (λ p x y. Alike (high_at c t x) (high_at c t y) x y)
 
 -- mailboxes, likewise
-abbrev pub AlikeBoxes : Category → (t : Bool) → HostPlan → List Process → List Process → List Mailbox → List Mailbox → Type 0
+abbrev pub AlikeBoxes : Category → (t : Bool) → HostPlan → List Process → List Process → List Mailbox → List Mailbox →
+    Type 0
 AlikeBoxes c t plan ps qs = Everywhere (λ b x y. Alike (high_box c t plan ps b) (high_box c t plan qs b) x y)
 
 -- equal, or on a lane that may differ

@@ -1,5 +1,6 @@
--- What is high for a secrecy category and a list of trusted hosts: all that may know what the category protects, on hosts
--- that may know it. What is high stays high: ownership isn't lost, and a category leaves a label only where it is owned.
+-- What is high for a secrecy category and a list of trusted hosts: all that may know what the category protects, on
+-- hosts that may know it. What is high stays high: ownership isn't lost, and a category leaves a label only where it
+-- is owned.
 use Rattle.std.specs.Prelude.{◌≡◌, ℕ, zero, suc, Bool, true, false, ◌&&◌, ◌||◌, ◌==◌, List, Option, Some, None, length, slice_get}
 use Rattle.ds_label.specs.declared.category.PubKey.{PubKey}
 use Rattle.ds_label.specs.declared.category.Category.{Category}

@@ -33,14 +33,17 @@ pub record Premises (s : Scheme) (c : Category) (trusted : List ℕ) (plan : Pla
   pub unforged_one : Unforged s c trusted plan v one
   pub unforged_two : Unforged s c trusted plan w two
 
--- a claim about the worlds at the end of each two runs that meet the premises, over a scheme that has what the law uses
+-- a claim about the worlds at the end of each two runs that meet the premises, over a scheme that has what the law
+-- uses
 abbrev pub AtEnd : (Category → List ℕ → Plan → World → World → Type 0) → Type 0
 AtEnd Claim = (s : Scheme) (c : Category) (trusted : List ℕ) (plan : Plan) (v w : World) (one two : List Event) →
-    IsScheme s plan → Premises s c trusted plan v w one two → Claim c trusted plan (run s plan v one) (run s plan w two)
+    IsScheme s plan → Premises s c trusted plan v w one two →
+    Claim c trusted plan (run s plan v one) (run s plan w two)
 
 -- each process that isn't high at the end of the first run has equal views
 abbrev pub SameProcesses : Category → List ℕ → Plan → World → World → Type 0
-SameProcesses c trusted plan v w = (h p : ℕ) → high_at c (is_in trusted h) (proc_at v h p) ≡ false → view_of_proc v h p ≡ view_of_proc w h p
+SameProcesses c trusted plan v w = (h p : ℕ) → high_at c (is_in trusted h) (proc_at v h p) ≡ false →
+    view_of_proc v h p ≡ view_of_proc w h p
 
 -- each host that isn't trusted has equal views
 abbrev pub SameHosts : Category → List ℕ → Plan → World → World → Type 0
@@ -52,8 +55,10 @@ SameDesks c trusted plan v w = (h : ℕ) → desk_at v h ≡ desk_at w h
 
 -- each connection that isn't high has equal arrived bytes
 abbrev pub SameArrivals : Category → List ℕ → Plan → World → World → Type 0
-SameArrivals c trusted plan v w = (k : ℕ) → high_conn c trusted plan k ≡ false → arrived_at plan v k ≡ arrived_at plan w k
+SameArrivals c trusted plan v w = (k : ℕ) → high_conn c trusted plan k ≡ false →
+    arrived_at plan v k ≡ arrived_at plan w k
 
 -- the sections of a text that aren't high are equal, however things are printed
 abbrev pub SameSections : Category → List ℕ → Plan → World → World → Type 0
-SameSections c trusted plan v w = (f : Format) → outside_sections f c trusted plan v ≡ outside_sections f c trusted plan w
+SameSections c trusted plan v w = (f : Format) →
+    outside_sections f c trusted plan v ≡ outside_sections f c trusted plan w

@@ -1,7 +1,7 @@
 -- Two runs over a network that meet the premises of the law: two trusted hosts with a high lane between them, a host that
 -- isn't trusted, to which a low lane leads, and a link to a trusted host on which an outsider writes. In place of signatures
 -- and spelling stands a toy: a hello is one byte, and a frame is its number and the byte of its message.
-use Rattle.std.specs.Prelude.{◌≡◌, ℕ, Bool, true, false, ◌&&◌, ◌||◌, ◌==◌, List, [], ◌∷◌, ◌++◌, Option, Some, None, option_map, replicate, slice_get, if◌then◌else◌}
+use Rattle.std.specs.Prelude.{◌≡◌, ℕ, Bool, true, false, ◌&&◌, ◌||◌, ◌==◌, List, [], ◌∷◌, ◌++◌, Option, Some, None, option_map, replicate, if◌then◌else◌}
 use Rattle.std.specs.List.{list_any}
 use Rattle.ds_label.specs.declared.category.Kind.TheVariants.{Secrecy}
 use Rattle.ds_label.specs.declared.category.PubKey.{PubKey}
@@ -19,7 +19,7 @@ use Rattle.ds_model.specs.Scheme.{Scheme, Item, Hello, Framed}
 use Rattle.ds_model.specs.Plan.{HostSetup, Plan, Link, OfLane, no_signing}
 use Rattle.ds_model.specs.Desk.{Desk}
 use Rattle.ds_model.specs.World.{Process, Worker, Host, World}
-use Rattle.ds_model.specs.Step.{Event, Step, Frame, Arrive, Accept, Deliver, Tick, Inject, Copy, run}
+use Rattle.ds_model.specs.Step.{Event, Step, Frame, Arrive, Accept, Deliver, Tick, Inject, run}
 use Rattle.ds_model.specs.Views.{proc_at}
 use Rattle.ds_model.specs.Examples.OneHost.{empty_scheme, new_conn}
 use Rattle.ds_model.specs.Examples.TwoHosts.{an_address}

@@ -1,5 +1,5 @@
--- The sections of a world's text without those of things that are high in that world. The first line and the hosts' lines
--- are never high.
+-- The sections of a world's text without those of things that are high in that world. The first line and the hosts'
+-- lines are never high.
 use Rattle.std.specs.Prelude.{ℕ, Bool, false, List, Option, Some, None, slice_get}
 use Rattle.ds_label.specs.declared.category.Category.{Category}
 use Rattle.ds_model.specs.Plan.{Plan, host_plan}

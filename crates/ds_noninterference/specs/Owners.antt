@@ -13,8 +13,10 @@ use Rattle.ds_noninterference.specs.Observations.{Released, Release, mark}
 
 -- at each event of each run from setup, a process that releases owns the category
 abbrev pub OnlyOwnersRelease : Type 0
-OnlyOwnersRelease = (s : Scheme) (c : Category) (trusted : List ℕ) (plan : Plan) (start : World) (events : List Event) (e : Event) (h p : ℕ) (r : Released) →
-    is_secrecy c.kind ≡ true → IsSetup s plan start → mark c trusted plan (run s plan start events) e ≡ Release h p r →
+OnlyOwnersRelease = (s : Scheme) (c : Category) (trusted : List ℕ) (plan : Plan) (start : World) (events : List Event) (e : Event)
+    (h p : ℕ) (r : Released) →
+    is_secrecy c.kind ≡ true → IsSetup s plan start →
+    mark c trusted plan (run s plan start events) e ≡ Release h p r →
     (x : Process) × (proc_at (run s plan start events) h p ≡ Some x) × (has by_name c x.own ≡ true)
 
 -- A process whose step changes its host's desk, which is a public act, owns each secrecy category of its label.

@@ -102,15 +102,4 @@ pub delivered : IsDeliveredLawfully
 delivered plan start events lanes setup spells = delivered_lawfully scheme has_spelling plan start events (record { scheme = is_readable plan lanes; setup = setup; spells = spells })
 
 pub after_both : (Claim : Category → List ℕ → Plan → World → World → Type 0) → AtEnd Claim → AfterBoth Claim
-after_both Claim law c trusted plan v w one two runs = law scheme c trusted plan v w one two (record {
-  scheme = is_scheme plan runs.lanes;
-  secret = runs.secret;
-  fits = runs.fits;
-  start_one = runs.start_one;
-  start_two = runs.start_two;
-  agree = runs.agree;
-  obeys_one = runs.obeys_one;
-  obeys_two = runs.obeys_two;
-  unforged_one = runs.unforged_one;
-  unforged_two = runs.unforged_two;
-})
+after_both Claim law c trusted plan v w one two lanes runs = law scheme c trusted plan v w one two (is_scheme plan lanes) runs

@@ -40,6 +40,9 @@ same_frame s hand =
 pub same_leaf : (key : Key) (leaf : ℕ) → scheme.has_leaf (signing_of key) leaf ≡ nat_lt leaf (leaves_of key)
 same_leaf key leaf = ap (λ (k : Key). nat_lt leaf (leaves_of k)) (key_again key)
 
+pub same_lane_leaf : (key : Key) (leaf : ℕ) → scheme.has_lane_leaf (signing_of key) leaf ≡ nat_lt leaf (leaves_of key)
+same_lane_leaf key leaf = ap (λ (k : Key). nat_lt leaf (leaves_of k)) (key_again key)
+
 -- what was read, in the words of judgements and of the desk
 same_read : (r : Result Cert ℕ) → flow_read r ≡ if_read r
 same_read (Ok cert) = refl

@@ -9,7 +9,7 @@ use Rattle.ds_cert.specs.declared.lane.LaneCert.{LaneCert}
 use Rattle.ds_cert.specs.Spelling.{signed_part_of_lane_cert}
 use Rattle.ds_msg.specs.declared.message.Message.{Message}
 use Rattle.ds_model.specs.Scheme.{Hello, Framed}
-use Rattle.ds_model.specs.Plan.{HostPlan, LanePlan, Plan, no_host}
+use Rattle.ds_model.specs.Plan.{HostPlan, HostSetup, LanePlan, Plan, no_host, host_plan}
 use Rattle.ds_desk.specs.Signing.{signing_of}
 use Rattle.ds_delivery.specs.Premises.{Written, stream_with}
 use Rattle.ds_scheme.specs.Receivers.{IsReceiver}
@@ -34,15 +34,19 @@ signed_lane = record unsigned_lane { signature = signature (key_named 1).params 
 abbrev pub the_lane : LanePlan
 the_lane = record { cert = signed_lane; signing = signing_of (key_named 3); room = 1 }
 
--- the exporter, and the receiver, which has an inlet for the lane
-abbrev pub the_sender : HostPlan
+-- the exporter, and another host, which has an inlet for the lane
+abbrev pub the_sender : HostSetup
 the_sender = record no_host { key = public_of (key_named 1); lanes = the_lane ∷ [] }
 
-abbrev pub the_receiver : HostPlan
-the_receiver = record no_host { key = public_of (key_named 2); inlets = record { exporter = public_of (key_named 1); lane = 1 } ∷ [] }
+abbrev pub the_other : HostSetup
+the_other = record no_host { key = public_of (key_named 2); inlets = record { exporter = public_of (key_named 1); lane = 1 } ∷ [] }
 
 abbrev pub the_plan : Plan
-the_plan = record { hosts = the_sender ∷ the_receiver ∷ []; conn_plans = [] }
+the_plan = record { hosts = the_sender ∷ the_other ∷ []; conn_plans = [] }
+
+-- the receiver, with the keys of both
+abbrev pub the_receiver : HostPlan
+the_receiver = host_plan the_plan 1
 
 -- a frame with one message of one byte
 abbrev pub the_message : Message

@@ -1,4 +1,5 @@
--- The one scheme of this repository: LMS signatures, shortest chains, and the one spelling of certificates, hellos and frames.
+-- The one scheme of this repository: LMS signatures, shortest chains, and the one spelling of certificates, hellos
+-- and frames.
 use Rattle.std.specs.Prelude.{ℕ, List, nat_lt}
 use Rattle.lms_state.specs.Signers.{Signing, leaves_of, next_signature}
 use Rattle.ds_cert.specs.Good.{is_good_delegation, is_good_address}
@@ -31,6 +32,7 @@ scheme = record {
   spelling = spelling_of_delegation;
   read_cert = λ bytes. if_read (read_cert bytes);
   has_leaf = λ k leaf. nat_lt leaf (leaves_of (key_of k));
+  has_lane_leaf = λ k leaf. nat_lt leaf (leaves_of (key_of k));
   hello = spelling_of_hello;
   frame = λ k leaf messages. frame_of (record { key = key_of k; next = leaf }) messages;
   items = items_of;

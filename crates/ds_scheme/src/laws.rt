@@ -83,6 +83,8 @@ pub fn parts_have_this_scheme()
     ensures flow { flow_scheme scheme ≡ scheme }
     // A signer may sign at a leaf that its key has.
     ensures leaf { (key : Key) (leaf : ℕ) → scheme.has_leaf (signing_of key) leaf ≡ nat_lt leaf (leaves_of key) }
+    // A worker may frame at a leaf that its lane's key has.
+    ensures lane_leaf { (key : Key) (leaf : ℕ) → scheme.has_lane_leaf (signing_of key) leaf ≡ nat_lt leaf (leaves_of key) }
     // A lane's stream begins with its hello.
     ensures hello { (who : Actor) (cert : LaneCert) (signing : Signing) → (fresh_worker who cert signing).stream ≡ scheme.hello cert }
     // The frame that a worker writes of its hand, at the next leaf of its key.

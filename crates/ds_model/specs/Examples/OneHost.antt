@@ -1,5 +1,5 @@
 -- Small worlds, in which the definitions compute.
-use Rattle.std.specs.Prelude.{◌≡◌, ℕ, zero, suc, Bool, true, false, not, ◌==◌, List, [], ◌∷◌, Option, Some, None, option_map, slice_get, replicate, codes}
+use Rattle.std.specs.Prelude.{◌≡◌, ℕ, zero, suc, false, List, [], ◌∷◌, Option, Some, None, option_map, slice_get, replicate, codes}
 use Rattle.ds_label.specs.declared.category.Kind.TheVariants.{Secrecy}
 use Rattle.ds_label.specs.declared.category.PubKey.{PubKey}
 use Rattle.ds_label.specs.declared.category.Category.{Category}
@@ -15,9 +15,9 @@ use Rattle.ds_model.specs.Scheme.{Scheme, Hello, Framed}
 use Rattle.ds_model.specs.Plan.{HostSetup, BoxPlan, Plan, Link, no_signing}
 use Rattle.ds_model.specs.Mailbox.{PutIn, FoundFull}
 use Rattle.ds_model.specs.World.{Mail, Mailbox, Conn, ConnLine, FrameLine, StaleLine, PassLine, Host, World}
-use Rattle.ds_model.specs.Step.{Event, Step, Accept, Deliver, step, run}
+use Rattle.ds_model.specs.Step.{Event, Step, Accept, Deliver, run}
 use Rattle.ds_model.specs.Views.{proc_at}
-use Rattle.ds_model.specs.Schedule.{Test, canonical}
+use Rattle.ds_model.specs.Schedule.{changes, canonical}
 
 -- a scheme in which nothing is signed, held or read
 abbrev pub empty_scheme : Scheme
@@ -125,20 +125,12 @@ abbrev pub IsReleased : Type 0
 IsReleased = (notes_of (after_steps 2 (sending (a_secret ∷ []))) ≡ Some (notes.Sent ∷ []))
     × (box_in (slice_get (after_steps 2 (sending (a_secret ∷ []))).hosts 0) ≡ Some (record { waiting = a_mail ∷ []; entries = PutIn a_mail ∷ [] }))
 
--- The canonical schedule of the process that prints is its two steps, and one of them where the budget is one. In this
--- world an event changes something where it moves the process.
-abbrev pub same_place : Option ℕ → Option ℕ → Bool
-same_place (Some m) (Some n) = m == n
-same_place _ _ = true
-
--- whether an event moves the process
-abbrev pub moves : Test
-moves w e = not (same_place (place_of w) (place_of (step empty_scheme one_host w e)))
+-- The canonical schedule of the process that prints is its two steps, and one of them where the budget is one.
 
 -- for budgets of five and of one
 abbrev pub IsScheduled : Type 0
-IsScheduled = (canonical moves empty_scheme one_host 5 printing ≡ Step 0 0 ∷ Step 0 0 ∷ [])
-    × (canonical moves empty_scheme one_host 1 printing ≡ Step 0 0 ∷ [])
+IsScheduled = (canonical (changes empty_scheme one_host) empty_scheme one_host 5 printing ≡ Step 0 0 ∷ Step 0 0 ∷ [])
+    × (canonical (changes empty_scheme one_host) empty_scheme one_host 1 printing ≡ Step 0 0 ∷ [])
 
 -- Where the mailbox is full the sender notes the same, and the message stands in the mailbox's entries alone.
 abbrev pub sending_twice : World
@@ -149,8 +141,8 @@ abbrev pub IsFull : Type 0
 IsFull = (notes_of (after_steps 3 sending_twice) ≡ Some (notes.Sent ∷ notes.Sent ∷ []))
     × (box_in (slice_get (after_steps 3 sending_twice).hosts 0) ≡ Some (record { waiting = a_mail ∷ []; entries = PutIn a_mail ∷ FoundFull a_mail ∷ [] }))
 
--- One inlet counts the frames of all connections that read the same hello: a frame that two of them read is fresh on the
--- first and stale on the second.
+-- One inlet counts the frames of all connections that read the same hello: a frame that two of them read is fresh on
+-- the first and stale on the second.
 abbrev pub other_key : PubKey
 other_key = record { 0 = 98 ∷ [] }
 

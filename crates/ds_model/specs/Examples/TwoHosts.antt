@@ -1,8 +1,7 @@
--- A small world of two hosts: a message goes over a lane, by the canonical schedule, and is taken and printed. In place of
--- signatures and spelling stands a toy: a hello is one byte, a frame is its number, and each frame that is read has the one
--- message that there is.
-use Rattle.std.specs.Prelude.{◌≡◌, ℕ, true, false, not, bytes_eq, List, [], ◌∷◌, ◌++◌, Option, Some, None, flat_map, length, map, option_map, slice_get, replicate, codes}
-use Rattle.ds_label.specs.declared.category.PubKey.{PubKey}
+-- A small world of two hosts: a message goes over a lane, by the canonical schedule, and is taken and printed. In
+-- place of signatures and spelling stands a toy: a hello is one byte, a frame is its number, and each frame that is
+-- read has the one message that there is.
+use Rattle.std.specs.Prelude.{◌≡◌, ℕ, true, false, List, [], ◌∷◌, Option, Some, None, map, option_map, slice_get, replicate, codes}
 use Rattle.ds_cert.specs.declared.address.Address.{Address}
 use Rattle.ds_cert.specs.declared.lane.LaneCert.{LaneCert}
 use Rattle.ds_msg.specs.declared.message.Message.{Message}
@@ -12,9 +11,9 @@ use Rattle.ds_script.specs.declared.note.Note.TheVariants as notes
 use Rattle.ds_model.specs.Scheme.{Scheme, Item, Hello, Framed}
 use Rattle.ds_model.specs.Plan.{HostSetup, Plan, OfLane, no_signing}
 use Rattle.ds_model.specs.Desk.{Desk}
-use Rattle.ds_model.specs.World.{Process, LaneLine, QueuedLine, FramedLine, Conn, FrameLine, PassLine, Host, World}
-use Rattle.ds_model.specs.Step.{Event, Step, Frame, Arrive, Accept, Deliver, step, run}
-use Rattle.ds_model.specs.Schedule.{Test, canonical}
+use Rattle.ds_model.specs.World.{Process, LaneLine, QueuedLine, FramedLine, FrameLine, PassLine, Host, World}
+use Rattle.ds_model.specs.Step.{Event, Step, Frame, Arrive, Accept, Deliver, run}
+use Rattle.ds_model.specs.Schedule.{changes, canonical}
 use Rattle.ds_model.specs.Examples.OneHost.{empty_scheme, only_key, other_key, new_conn, notes_of}
 
 -- the one message goes from the host with the other key to the host with the only key
@@ -88,38 +87,6 @@ posting = record { desk = new_desk; procs = new_process (ops.Set 0 (codes "x") �
 abbrev pub before_letter : World
 before_letter = record { hosts = receiving ∷ posting ∷ []; conns = new_conn ∷ [] }
 
--- in this world an event changes something where one of these numbers changes
-
--- one where something is there
-abbrev pub is_there : {X : Type 0} → Option X → ℕ
-is_there None = 0
-is_there (Some x) = 1
-
--- of a process
-abbrev pub process_numbers : Process → List ℕ
-process_numbers x = x.course.place ∷ is_there x.hand ∷ []
-
--- of a host
-abbrev pub host_numbers : Host → List ℕ
-host_numbers x =
-    flat_map process_numbers x.procs
-    ++ (map (λ b. length b.entries) x.boxes
-    ++ (map (λ q. length q) x.queues
-    ++ (flat_map (λ e. length e.hand ∷ e.leaf ∷ length e.stream ∷ []) x.workers
-    ++ map is_there x.inlets)))
-
--- of a connection
-abbrev pub conn_numbers : Conn → List ℕ
-conn_numbers k = k.count ∷ k.taken ∷ length k.hand ∷ is_there k.passed ∷ []
-
--- of a world
-abbrev pub numbers : World → List ℕ
-numbers w = flat_map host_numbers w.hosts ++ flat_map conn_numbers w.conns
-
--- whether an event changes one of them
-abbrev pub counts : Test
-counts w e = not (bytes_eq (numbers w) (numbers (step toy_scheme two_hosts w e)))
-
 -- Three rounds carry the letter, and in two more it is taken and printed.
 abbrev pub letter_events : List Event
 letter_events =
@@ -140,7 +107,7 @@ logs_of w = option_map (λ x. x.logs) (slice_get w.hosts 1)
 
 -- the schedule, what the receiver noted, and what is printed of the lane and of the connection
 abbrev pub IsCarried : Type 0
-IsCarried = (canonical counts toy_scheme two_hosts 50 before_letter ≡ letter_events)
+IsCarried = (canonical (changes toy_scheme two_hosts) toy_scheme two_hosts 50 before_letter ≡ letter_events)
     × (notes_of after_letter ≡ Some (notes.Took 1 1 true ∷ notes.Print (codes "x") ∷ []))
     × (logs_of after_letter ≡ Some ((QueuedLine (record { sender = 0; message = letter }) ∷ FramedLine 0 1 ∷ []) ∷ []))
     × (map (λ k. k.lines) after_letter.conns ≡ (FrameLine 0 1 ∷ PassLine 1 ∷ []) ∷ [])
