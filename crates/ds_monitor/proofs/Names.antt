@@ -1,6 +1,6 @@
 -- Each rule over names, from the rule over the numbers.
 use Rattle.std.proofs.Common.{◌≡◌, ℕ, ◌+◌, ◌*◌, ◌^◌, ◌<◌, List, [], ◌∷◌, Option, Bool, true, false, ◌&&◌, refl, sym, ap, ◌∙◌, subst, arith}
-use Rattle.std.specs.Prelude.{Result, nat_lt}
+use Rattle.std.specs.Prelude.{Result, nat_lt, All}
 use Rattle.std.specs.List.{list_all}
 use Rattle.std.proofs.lemmas.Bool.Decides.{nat_tests}
 use Rattle.std.proofs.lemmas.Slice.Eq.{bytes_eq-Decides}
@@ -11,6 +11,8 @@ use Rattle.ds_label.specs.declared.rule.Rule.{Rule}
 use Rattle.ds_label.specs.Flow.{IsRising}
 use Rattle.ds_label.specs.Names.{by_name}
 use Rattle.ds_label.specs.Numbers.{by_number}
+use Rattle.ds_script.specs.declared.usable.Usable.{Usable}
+use Rattle.ds_script.specs.Names.{IsNewNumber}
 use Rattle.ds_model.specs.ProcessRules.{may_send, may_take, may_publish, may_relabel, may_make, can_grant}
 use Rattle.ds_model.specs.Mapping.{is_home, is_known, number_of, home_number, next_category}
 use Rattle.ds_map.specs.Labels.{has_name, name_of, named}
@@ -72,3 +74,8 @@ make_names result here index made kind own few less a rows table h up =
     and_both true true e f = refl
     and_both true false e f = f
     and_both false b e f = e
+
+-- where each usable name is that of its number under a table, no two categories share a number; so a known one's is new
+pub known_number_new : (here : PubKey) (rows : List Category) (c : Category) (names : List Usable) → All (λ u. name_of here rows u.local ≡ u.category) names → is_known here rows c ≡ true →
+    IsNewNumber c (number_of here rows c) names
+known_number_new here rows c names told known k d below e = sym (told k d below) ∙ ap (name_of here rows) e ∙ name_of-number_of here rows c known

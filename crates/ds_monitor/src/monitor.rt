@@ -6,6 +6,7 @@ ghost use Rattle.std.specs.Result.{result_err};
 ghost use Rattle.ds_label.specs.Flow.{IsRising};
 ghost use Rattle.ds_label.specs.Names.{by_name};
 ghost use Rattle.ds_label.specs.Numbers.{by_number};
+ghost use Rattle.ds_script.specs.Names.{IsNewNumber};
 ghost use Rattle.ds_script.specs.Process.{ProcView, made_process, granted_process};
 ghost use Rattle.ds_model.specs.Mapping.{home_number as number_of_home, next_category};
 ghost use Rattle.ds_model.specs.ProcessRules.{may_send as send_rule, may_take as take_rule, may_publish as publish_rule, may_relabel as relabel_rule, may_make as make_rule, can_grant};
@@ -70,11 +71,14 @@ pub trait Monitor {
         ensures spare { (seen self.new).spare ≡ (seen self.old).spare };
 
     /// A new category of this kind, made by the process with that index on the host with this key: its number is the index
-    /// times 2^32, and how many the process made before. The process owns it and may use it. It needs an index below 2^30.
+    /// times 2^32, and how many the process made before. The process owns it and may use it. It needs an index below 2^30,
+    /// and usable names of which no other has the new category's number; the host's table tells that it is so.
     /// Refused by `TooMany` where the ownership would get a 65th member or the process has made 2^32 - 1. `NoMemory` where
     /// memory runs out. After either the process is the same.
     fn new_category(&mut self, here: &PubKey, index: u32, kind: Kind) -> Result<Category, ProcFault>
-        requires { index < 2 ^ 30 }
+        requires index { index < 2 ^ 30 }
+        requires new { let p = (seen self.old).process in let category = next_category here.now index p.made kind in
+            IsNewNumber category (number_of_home category) p.names }
         ensures rule { let p = (seen self.old).process in
             Answers (make_rule by_number p.own p.made (number_of_home (next_category here.now index p.made kind))) result }
         ensures names { let p = (seen self.old).process in

@@ -1,5 +1,5 @@
 -- What a script's operations and a process's registers keep.
-use Rattle.std.specs.Prelude.{◌≡◌, ℕ, ◌≤◌, ◌<◌, ◌^◌, List, length, All}
+use Rattle.std.specs.Prelude.{ℕ, ◌≤◌, ◌<◌, ◌^◌, List, length, All}
 use Rattle.ds_script.specs.declared.op.Op.{Op}
 use Rattle.ds_script.specs.declared.op.Op.TheVariants.{Set, Join, IfEq, Jump, Print, Send, Take, SetLabel, NewCat, Delegate, Map, Import}
 use Rattle.ds_script.specs.Inner.{Course, register_limit}

@@ -1,5 +1,5 @@
 -- The steps that stay inside a process.
-use Rattle.std.specs.Prelude.{ℕ, ◌+◌, List, [], ◌∷◌, ◌++◌, length, slice_get, slice_set, slice_index_or, get_or, bytes_eq, Option, Some, None, nat_lt, if◌then◌else◌}
+use Rattle.std.specs.Prelude.{ℕ, ◌+◌, List, [], ◌∷◌, ◌++◌, length, slice_get, slice_set, get_or, bytes_eq, Option, Some, None, nat_lt, if◌then◌else◌}
 use Rattle.ds_label.specs.declared.rule.Rule.TheVariants.{TooLong}
 use Rattle.ds_script.specs.declared.op.Op.{Op}
 use Rattle.ds_script.specs.declared.op.Op.TheVariants as ops

@@ -1,8 +1,9 @@
 -- What a process shows of its fields, and what these keep.
-use Rattle.std.specs.Prelude.{◌≡◌, ◌≤◌, ◌-◌, ◌/◌, min, length, vec_len, vec_capacity}
+use Rattle.std.specs.Prelude.{◌≤◌, ◌-◌, ◌/◌, min, length, vec_len, vec_capacity}
 use Rattle.ds_script.specs.declared.process.Proc.TheInside.{Inside}
 use Rattle.ds_script.specs.Fits.{IsScript}
-use Rattle.ds_script.specs.Process.{Process, ProcView}
+use Rattle.ds_script.specs.Names.{AreApart}
+use Rattle.ds_script.specs.Process.{ProcView}
 
 abbrev pub view_of : Inside → ProcView
 view_of p = record {
@@ -14,3 +15,4 @@ view_of p = record {
 pub record IsSound (p : Inside) : Type 0 where
   pub fits : IsScript p.script
   pub within : p.course.course.place ≤ length p.script
+  pub apart : AreApart p.names.items

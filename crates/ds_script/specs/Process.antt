@@ -1,5 +1,5 @@
 -- A process.
-use Rattle.std.specs.Prelude.{◌≡◌, ℕ, ◌+◌, Bool, List, [], ◌∷◌, ◌++◌, Option, Some, None, replicate, if◌then◌else◌}
+use Rattle.std.specs.Prelude.{ℕ, ◌+◌, List, [], Option, Some, replicate}
 use Rattle.ds_label.specs.declared.category.Category.{Category}
 use Rattle.ds_label.specs.Flow.{with_member, union}
 use Rattle.ds_label.specs.Numbers.{by_number}

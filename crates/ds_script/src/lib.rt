@@ -2,6 +2,7 @@
 #![tactic(auto)]
 
 mod actor;
+mod bytes_list;
 mod course;
 mod fitting;
 mod note;
@@ -10,6 +11,7 @@ mod process;
 mod usable;
 
 pub use actor::{Actor, ActorKind};
+pub use bytes_list::BytesList;
 pub use note::{Note, NoteList};
 pub use op::{Op, OpList, REGISTER_LIMIT, SCRIPT_LIMIT};
 pub use process::Proc;

@@ -4,7 +4,7 @@ ghost use Rattle.std.specs.Prelude.{◌≡◌, ◌+◌, ◌^◌, ◌<◌, ◌≤
 ghost use Rattle.std.specs.Bool.{OnTrue, OnFalse};
 ghost use Rattle.ds_script.specs.Inner.{inner, register};
 ghost use Rattle.ds_script.specs.Fits.{IsOp, IsScript};
-ghost use Rattle.ds_script.specs.Names.{with_name, is_named as is_named_in};
+ghost use Rattle.ds_script.specs.Names.{with_name, is_named as is_named_in, AreApart, IsNewNumber, MayJoin};
 ghost use Rattle.ds_label.specs.Flow.{with_member, union};
 ghost use Rattle.ds_label.specs.Numbers.{by_number};
 
@@ -52,7 +52,7 @@ impl Proc {
 
     /// A process at its script's first operation, with empty registers and no note. Takes no memory. It needs a script of at
     /// most 4,096 operations with registers below 8, texts of at most 16,384 bytes, places not past the script's end and,
-    /// in each `Map`, a category whose number is below `2^62`.
+    /// in each `Map`, a category whose number is below `2^62`, and names of which no two share a category or a number.
     pub fn new(
         alloc: Global,
         script: OpList,
@@ -62,7 +62,8 @@ impl Proc {
         clear: LocalLabel,
         names: UsableList,
     ) -> Proc
-        requires { IsScript script }
+        requires script { IsScript script }
+        requires names { AreApart names }
         ensures { result.process ≡ fresh script made label own clear names }
     {
         Proc {
@@ -153,9 +154,10 @@ impl Proc {
         &self.clear
     }
 
-    /// The names that the process may use besides the host's own.
+    /// The names that the process may use besides the host's own. No two share a category or a number.
     pub fn names(&self) -> &[Usable]
-        ensures { result.now ≡ self.now.process.names }
+        ensures names { result.now ≡ self.now.process.names }
+        ensures apart { AreApart self.now.process.names }
     {
         self.names.as_slice()
     }
@@ -202,11 +204,13 @@ impl Proc {
 
     /// The end of an operation that isn't run inside the process: its note, what it loads into a register, and the next
     /// place. What was mapped joins the usable names unless its category is among them. It needs room, a process that
-    /// hasn't ended, and for what is loaded a register below 8 and at most 16,384 bytes. Takes no memory.
+    /// hasn't ended, for what is loaded a register below 8 and at most 16,384 bytes, and for what was mapped a number that
+    /// no other category among the names has. Takes no memory.
     pub fn finish(&mut self, note: Option<Note>, load: Option<(u8, Bytes)>)
         requires room { 0 < self.old.room }
         requires going { self.old.process.course.place < length self.old.process.script }
         requires fits { IfSome load (λ l. (l.0 < 8) × (length l.1 ≤ 16384)) }
+        requires joins { MayJoin note self.old.process.names }
         ensures process { self.new.process ≡ finished_process note load self.old.process }
         ensures spare { self.new.spare ≡ self.old.spare }
     {
@@ -226,10 +230,12 @@ impl Proc {
     }
 
     /// A category that the process made: it is owned, and it and its number join the usable names unless it is among them.
+    /// It needs a number that no other category among the names has.
     /// It is refused where the ownership would get a 65th member: `TooMany`, unless memory runs out, which is `NoMemory`.
     /// After either the process is the same.
     pub fn make(&mut self, category: Category, local: u64) -> Result<(), LabelFault>
-        requires { self.old.process.made + 1 < 2 ^ 32 }
+        requires made { self.old.process.made + 1 < 2 ^ 32 }
+        requires joins { IsNewNumber category local self.old.process.names }
         ensures ok { OnOk result (self.new.process ≡ made_process category local self.old.process) }
         ensures too_many { result ≡ Err LabelFault.TooMany → 64 < length (with_member by_number local self.old.process.own) }
         ensures refused { 64 < length (with_member by_number local self.old.process.own) → IsErr result }
@@ -269,8 +275,11 @@ impl Proc {
 
 /// The category and its number join the names, for which there is room, unless the category is among them.
 fn join_names(names: &mut Vec<Usable>, category: Category, local: u64)
-    requires { vec_len names.old < vec_capacity names.old }
+    requires room { vec_len names.old < vec_capacity names.old }
+    requires apart { AreApart names.old.items }
+    requires joins { IsNewNumber category local names.old.items }
     ensures names { names.new.items ≡ with_name category local names.old.items }
+    ensures apart { AreApart names.new.items }
     ensures capacity { vec_capacity names.new ≡ vec_capacity names.old }
 {
     if !is_named(names.as_slice(), &category) {
