@@ -1,6 +1,5 @@
 -- Acts in public: what is judged in numbers is what the model judges by names.
-use Rattle.std.proofs.Common.{◌≡◌, ℕ, Bool, true, false, ◌&&◌, List, [], ◌∷◌, Option, Some, None, is_some, refl, sym, ap, ap₂, ◌∙◌}
-use Rattle.std.specs.List.{list_all}
+use Rattle.std.proofs.Common.{◌≡◌, ℕ, Bool, true, false, ◌&&◌, List, [], ◌∷◌, Option, Some, None, is_some, sym, ap, ap₂, ◌∙◌}
 use Rattle.ds_label.specs.declared.category.PubKey.{PubKey}
 use Rattle.ds_label.specs.declared.category.Category.{Category}
 use Rattle.ds_label.specs.declared.rule.Rule.{Rule}
@@ -9,7 +8,7 @@ use Rattle.ds_label.specs.Flow.{has}
 use Rattle.ds_label.specs.Names.{by_name}
 use Rattle.ds_label.specs.Numbers.{by_number}
 use Rattle.ds_script.specs.Process.{Process as Numbered}
-use Rattle.ds_model.specs.FirstRule.{unless, first_rule, or_else}
+use Rattle.ds_model.specs.FirstRule.{unless, first_rule}
 use Rattle.ds_model.specs.Mapping.{is_known, number_of}
 use Rattle.ds_model.specs.ProcessRules.{may_publish}
 use Rattle.ds_map.specs.Table.{IsTable}

@@ -1,5 +1,5 @@
 -- Sends: what is judged in numbers is what the model judges by names.
-use Rattle.std.proofs.Common.{◌≡◌, ℕ, ◌<◌, Bool, true, false, cond, ◌&&◌, List, [], ◌∷◌, ◌++◌, Option, Some, None, refl, sym, ap, ap₂, ◌∙◌}
+use Rattle.std.proofs.Common.{◌≡◌, ℕ, ◌<◌, true, false, cond, ◌&&◌, List, [], ◌∷◌, ◌++◌, Option, Some, None, refl, sym, ap, ◌∙◌}
 use Rattle.std.specs.Prelude.{option_map, position, ◌==◌, length, IfSome}
 use Rattle.std.specs.List.{list_all}
 use Rattle.ds_label.specs.declared.category.PubKey.{PubKey}
@@ -108,8 +108,8 @@ module _ (site : SitePlan) (rows : List Category) (table : IsTable site.here row
   target_by o e =
       ap (λ (i : Option ℕ). send_here q x m None (target i (mailbox_rule by_name (label_of q i) m.label))) (same_box site rows plan slot ∙ sym at)
       ∙ ap (λ (r : Option Rule). send_here q x m None (target place r))
-          (ap (λ (z : Option (List Category)). mailbox_rule by_name z m.label) (label_same site rows plan place within)
-          ∙ (mailbox_same site.here rows table (label_at site.boxes place) n.label (λ l f. site_named site.here rows site.boxes place l f boxes_named) label_has ∙ e))
+      (ap (λ (z : Option (List Category)). mailbox_rule by_name z m.label) (label_same site rows plan place within)
+      ∙ (mailbox_same site.here rows table (label_at site.boxes place) n.label (λ l f. site_named site.here rows site.boxes place l f boxes_named) label_has ∙ e))
 
   pub put_refused : (rule : Rule) → mailbox_rule by_number (label_at site.boxes place) n.label ≡ Some rule → send_here q x m None (judge_box q slot m.label) ≡ refused rule x
   put_refused rule e = target_by (Some rule) e

@@ -1,10 +1,9 @@
 -- What setup fixed of a host: by names it is found at the same places.
-use Rattle.std.proofs.Common.{◌≡◌, ℕ, zero, suc, ◌<◌, cond, Bool, true, false, ◌&&◌, List, [], ◌∷◌, map, Option, Some, None, refl, sym, ap, ap₂, ◌∙◌, IsTrue, slice_get, arith}
+use Rattle.std.proofs.Common.{◌≡◌, ℕ, zero, suc, ◌<◌, cond, Bool, true, false, ◌&&◌, List, [], ◌∷◌, map, Option, Some, None, refl, sym, ap, ap₂, ◌∙◌, slice_get, arith}
 use Rattle.std.specs.Prelude.{◌+◌, option_map, position, ◌==◌, length, get_or, nat_lt, not, IfSome}
 use Rattle.std.specs.List.{list_all, prefix_len}
 use Rattle.ds_label.specs.declared.category.PubKey.{PubKey}
 use Rattle.ds_label.specs.declared.category.Category.{Category}
-use Rattle.ds_cert.specs.declared.lane.LaneCert.{LaneCert}
 use Rattle.ds_model.specs.Plan.{HostPlan, BoxPlan, LanePlan, no_box}
 use Rattle.ds_model.specs.ProcessStep.{box_of as box_place, label_of, lane_of as lane_place}
 use Rattle.ds_map.specs.Labels.{named, have_names, has_name}

@@ -1,7 +1,6 @@
 -- Takes: what is judged in numbers is what the model judges by names.
-use Rattle.std.proofs.Common.{◌≡◌, ℕ, ◌<◌, Bool, true, ◌&&◌, List, [], ◌∷◌, Option, Some, None, refl, sym, ap, ap₂, ◌∙◌}
+use Rattle.std.proofs.Common.{◌≡◌, ℕ, ◌<◌, true, ◌&&◌, List, [], ◌∷◌, Option, Some, None, ap, ap₂, ◌∙◌}
 use Rattle.std.specs.Prelude.{option_map, position, ◌==◌, length}
-use Rattle.std.specs.List.{list_all}
 use Rattle.ds_label.specs.declared.category.Category.{Category}
 use Rattle.ds_label.specs.declared.rule.Rule.{Rule}
 use Rattle.ds_label.specs.declared.rule.Rule.TheVariants.{NoBox}
@@ -13,9 +12,9 @@ use Rattle.ds_model.specs.World.{Process}
 use Rattle.ds_model.specs.Plan.{HostPlan, box_plan}
 use Rattle.ds_model.specs.FirstRule.{unless, first_rule}
 use Rattle.ds_model.specs.ProcessRules.{may_take}
-use Rattle.ds_model.specs.ProcessStep.{Ask, TakeFrom, refused, take_from, take_rule, box_of as box_place}
+use Rattle.ds_model.specs.ProcessStep.{Ask, refused, take_from, take_rule, box_of as box_place}
 use Rattle.ds_map.specs.Table.{IsTable}
-use Rattle.ds_map.specs.Labels.{named, have_names, has_name}
+use Rattle.ds_map.specs.Labels.{named, have_names}
 use Rattle.ds_map.proofs.Numbers.{same_rules}
 use Rattle.ds_actor.specs.Sites.{SitePlan, BoxSite, with_site, labels_of, label_at, owner_at}
 use Rattle.ds_actor.specs.Seen.{process_of}

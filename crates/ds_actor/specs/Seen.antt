@@ -1,5 +1,5 @@
 -- A process and a message inside a host, by the names of their numbers.
-use Rattle.std.specs.Prelude.{◌≡◌, ℕ, List, [], ◌∷◌, ◌++◌, Option, IsTrue}
+use Rattle.std.specs.Prelude.{ℕ, List, [], ◌∷◌, Option, IsTrue}
 use Rattle.ds_label.specs.declared.category.PubKey.{PubKey}
 use Rattle.ds_label.specs.declared.category.Category.{Category}
 use Rattle.ds_script.specs.Process.{Process as Numbered}

@@ -72,7 +72,7 @@ pub(crate) fn ask_delegate(
     ensures range { (site : SitePlan) → IsAskInRange site result }
     ensures asked { UnderTables here.now [] process.now.process (λ rows. (hand : Option Message) (y : Process) → let x = process_of here.now rows hand process.now.process in
         IsAsked here.now rows x y result (publish x (Delegating category.now to.now from until) reg host
-            (first_rule (unless (is_known here.now x.names category.now) (rules.NotKnown category.now) ∷ unless (has by_name category.now x.own) rules.NotHeld ∷ publish_rule x ∷ [])))) }
+        (first_rule (unless (is_known here.now x.names category.now) (rules.NotKnown category.now) ∷ unless (has by_name category.now x.own) rules.NotHeld ∷ publish_rule x ∷ [])))) }
 {
     if let Some(rule) = delegate_refusal(here, process, category) {
         return ProcessAsk::Refused(rule);
