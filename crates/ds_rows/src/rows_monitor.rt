@@ -1,5 +1,7 @@
 //! What a process may do, over its host's own numbers: an even one is for secrecy, an odd one for integrity.
 
+ghost use Rattle.std.specs.Prelude.{◌≡◌, [], IfSome};
+
 use crate::row::Row;
 use ds_label::{Kind, LocalLabel, PubKey, Rule};
 use ds_monitor::{Monitor, ProcFault};
@@ -12,7 +14,9 @@ fn process(
     label: LocalLabel,
     own: LocalLabel,
     clear: LocalLabel,
-) -> Option<Proc> {
+) -> Option<Proc>
+    ensures { IfSome result (λ p. p.process.names ≡ []) }
+{
     let script = OpList::new(row.alloc);
     if !script.is_script() {
         return None;
@@ -67,18 +71,17 @@ fn sends(row: &mut Row<'_>, process: &Proc) {
     say_rule(row, process.may_send(&label, &own, &clear));
 }
 
-/// Makes so many categories by the process with this index on the host with key 1. Says which rule refuses, if one does, and
-/// then the last one's number, how many are owned, and the last one's number on the host.
-fn makes(row: &mut Row<'_>, process: &mut Proc, index: u32, kind: Kind, times: u32) {
-    let mut last = 0;
-    for _ in 0..times {
-        match process.new_category(&PubKey([1; 56]), index & 65_535, kind) {
-            Ok(category) => last = category.number,
-            Err(ProcFault::Refused(rule)) => row.say(rule.name()),
-            Err(ProcFault::NoMemory) => row.full(),
-        }
+/// Makes a category by the process with this index, without usable names, on the host with key 1. Says the category's number or
+/// which rule refuses, and then how many are owned, and the last one's number on the host.
+#[tactic(auto, using(crate::proofs::Fresh::new_among_none))]
+fn makes(row: &mut Row<'_>, process: &mut Proc, index: u32, kind: Kind)
+    requires { process.old.process.names ≡ [] }
+{
+    match process.new_category(&PubKey([1; 56]), index & 65_535, kind) {
+        Ok(category) => row.say_number(category.number),
+        Err(ProcFault::Refused(rule)) => row.say(rule.name()),
+        Err(ProcFault::NoMemory) => row.full(),
     }
-    row.say_number(last);
     row.say("owns");
     row.say_number(process.own().len() as u64);
     row.say("last");
@@ -88,7 +91,8 @@ fn makes(row: &mut Row<'_>, process: &mut Proc, index: u32, kind: Kind, times: u
 /// A maker of categories.
 fn maker(row: &mut Row<'_>) {
     let made = row.small(1, u32::MAX);
-    let (label, own) = (LocalLabel::new(row.alloc), LocalLabel::new(row.alloc));
+    let label = LocalLabel::new(row.alloc);
+    let own = row.local(5);
     let clear = LocalLabel::new(row.alloc);
     let index = row.small(2, 99);
     let kind = if row.is(4, "s") {
@@ -96,9 +100,8 @@ fn maker(row: &mut Row<'_>) {
     } else {
         Kind::Integrity
     };
-    let times = row.small(5, 99);
     if let Some(mut process) = process(row, made, label, own, clear) {
-        makes(row, &mut process, index, kind, times);
+        makes(row, &mut process, index, kind);
     }
 }
 
@@ -125,7 +128,7 @@ fn acts(row: &mut Row<'_>, process: &mut Proc) {
 }
 
 /// `monitor LABEL OWN CLEAR sends LABEL OWN CLEAR`, `monitor LABEL OWN CLEAR takes LABEL`, `monitor LABEL OWN CLEAR acts`,
-/// `monitor LABEL OWN CLEAR changes LABEL`, `monitor LABEL OWN CLEAR grants OWN CLEAR`, `monitor MADE INDEX makes KIND N`.
+/// `monitor LABEL OWN CLEAR changes LABEL`, `monitor LABEL OWN CLEAR grants OWN CLEAR`, `monitor MADE INDEX makes KIND OWN`.
 pub(crate) fn row(row: &mut Row<'_>) {
     if row.is(3, "makes") {
         return maker(row);
