@@ -1,0 +1,17 @@
+pub mod Places
+pub mod Tables
+pub mod Stamps
+pub mod Reading
+pub mod OneConn
+pub mod Grown
+pub mod Lifts
+pub mod OneLane
+pub mod IfDone
+pub mod Judged
+pub mod Merged
+pub mod Checks
+pub mod CheckedHosts
+pub mod Runs
+pub mod OneProc
+pub mod Unreads
+pub mod Queues

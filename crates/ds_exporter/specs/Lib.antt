@@ -1,0 +1,10 @@
+pub mod Standing
+pub mod Merging
+pub mod Seen
+pub mod Conditions
+pub mod Stamping
+pub mod Lifting
+pub mod Checking
+pub mod Running
+pub mod Unread
+pub mod Queueing
