@@ -1,9 +1,7 @@
 pub mod Places
 pub mod Tables
 pub mod Stamps
-pub mod Reading
 pub mod OneConn
-pub mod Grown
 pub mod Lifts
 pub mod OneLane
 pub mod IfDone
@@ -13,5 +11,4 @@ pub mod Checks
 pub mod CheckedHosts
 pub mod Runs
 pub mod OneProc
-pub mod Unreads
 pub mod Queues

@@ -7,7 +7,7 @@ use Rattle.ds_model.specs.Lane.{front}
 use Rattle.ds_lane.specs.declared.batch.Waiting.{Waiting}
 use Rattle.ds_lane.specs.Lanes.{entered, lift_entry}
 use Rattle.ds_lane.specs.Workers.{holding, IsReady}
-use Rattle.ds_exporter.specs.Standing.{HostLane}
+use Rattle.ds_exporter.specs.HostStates.{HostLane}
 use Rattle.ds_exporter.specs.Lifting.{lifted_from, lifted_lane}
 
 pub is_ready : (l : HostLane) (b : Bool) → b ≡ nat_lt l.worker.signing.next (leaves_of l.worker.signing.key) → b ≡ true → IsReady l.worker.signing

@@ -13,11 +13,11 @@ use Rattle.ds_model.specs.WorkerStep.{admitted_line}
 use Rattle.ds_lane.specs.declared.batch.Waiting.{Waiting}
 use Rattle.ds_lane.specs.declared.worker_entry.WorkerEntry.{WorkerEntry}
 use Rattle.ds_lane.specs.Lanes.{entry_of, sent_by}
-use Rattle.ds_exporter.specs.Standing.{HostLane}
-use Rattle.ds_exporter.specs.Merging.{Stamped, entry_lines, worker_stamped, woven, merged, line_of, waiting_seen}
-use Rattle.ds_exporter.specs.Seen.{queue_seen, log_seen}
+use Rattle.ds_exporter.specs.HostStates.{HostLane}
+use Rattle.ds_exporter.specs.Merging.{Stamped, entry_lines, worker_stamped, woven, merged, line_of, plain_waiting}
+use Rattle.ds_exporter.specs.PlainHosts.{plain_queue, log_of}
 use Rattle.ds_exporter.specs.Queueing.{admitted_lane}
-use Rattle.ds_exporter.specs.Stamping.{IsLaneBelow}
+use Rattle.ds_exporter.specs.Stamping.{IsLaneBefore}
 use Rattle.ds_exporter.proofs.Merged.{Below}
 
 -- the first place, by what is seen
@@ -61,25 +61,25 @@ abbrev stamped : ℕ → LaneLine → Stamped
 stamped stamp line = record { stamp = stamp; line = line }
 
 -- the line of a message that comes to a lane
-line_for : (stamp room : ℕ) (who : Actor) (w : Waiting) (waiting : List Waiting) → (line : LaneLine) × (entry_lines (entry_of stamp who (admit_entry room w waiting)) ≡ stamped stamp line ∷ []) × (admitted_line (admit_entry room (waiting_seen w) (map waiting_seen waiting)) ≡ line ∷ [])
+line_for : (stamp room : ℕ) (who : Actor) (w : Waiting) (waiting : List Waiting) → (line : LaneLine) × (entry_lines (entry_of stamp who (admit_entry room w waiting)) ≡ stamped stamp line ∷ []) × (admitted_line (admit_entry room (plain_waiting w) (map plain_waiting waiting)) ≡ line ∷ [])
 line_for stamp room who w waiting = go (nat_lt (length waiting) room) refl
   where
-    go : (b : Bool) → nat_lt (length waiting) room ≡ b → (line : LaneLine) × (entry_lines (entry_of stamp who (admit_entry room w waiting)) ≡ stamped stamp line ∷ []) × (admitted_line (admit_entry room (waiting_seen w) (map waiting_seen waiting)) ≡ line ∷ [])
+    go : (b : Bool) → nat_lt (length waiting) room ≡ b → (line : LaneLine) × (entry_lines (entry_of stamp who (admit_entry room w waiting)) ≡ stamped stamp line ∷ []) × (admitted_line (admit_entry room (plain_waiting w) (map plain_waiting waiting)) ≡ line ∷ [])
     go true e = (
-      QueuedLine (waiting_seen w),
+      QueuedLine (plain_waiting w),
       ap (λ (b : Bool). entry_lines (entry_of stamp who (if b then QueuedOne w else QueueFull w))) e,
-      ap (λ (k : ℕ). admitted_line (if nat_lt k room then QueuedOne (waiting_seen w) else QueueFull (waiting_seen w))) (length-map waiting waiting_seen)
-          ∙ ap (λ (b : Bool). admitted_line (if b then QueuedOne (waiting_seen w) else QueueFull (waiting_seen w))) e,
+      ap (λ (k : ℕ). admitted_line (if nat_lt k room then QueuedOne (plain_waiting w) else QueueFull (plain_waiting w))) (length-map waiting plain_waiting)
+          ∙ ap (λ (b : Bool). admitted_line (if b then QueuedOne (plain_waiting w) else QueueFull (plain_waiting w))) e,
     )
     go false e = (
-      FullLine (waiting_seen w),
+      FullLine (plain_waiting w),
       ap (λ (b : Bool). entry_lines (entry_of stamp who (if b then QueuedOne w else QueueFull w))) e,
-      ap (λ (k : ℕ). admitted_line (if nat_lt k room then QueuedOne (waiting_seen w) else QueueFull (waiting_seen w))) (length-map waiting waiting_seen)
-          ∙ ap (λ (b : Bool). admitted_line (if b then QueuedOne (waiting_seen w) else QueueFull (waiting_seen w))) e,
+      ap (λ (k : ℕ). admitted_line (if nat_lt k room then QueuedOne (plain_waiting w) else QueueFull (plain_waiting w))) (length-map waiting plain_waiting)
+          ∙ ap (λ (b : Bool). admitted_line (if b then QueuedOne (plain_waiting w) else QueueFull (plain_waiting w))) e,
     )
 
-pub log_admitted : (stamp : ℕ) (who : Actor) (m : Message) (l : HostLane) → IsLaneBelow stamp l
-    → log_seen (admitted_lane stamp who m l) ≡ log_seen l ++ admitted_line (admit_entry l.lane.room (record { sender = who.index; message = m }) (queue_seen l))
+pub log_admitted : (stamp : ℕ) (who : Actor) (m : Message) (l : HostLane) → IsLaneBefore stamp l
+    → log_of (admitted_lane stamp who m l) ≡ log_of l ++ admitted_line (admit_entry l.lane.room (record { sender = who.index; message = m }) (plain_queue l))
 log_admitted stamp who m l below =
     let w = sent_by who.index m in
     let line = line_for stamp l.lane.room who w l.lane.waiting in
@@ -88,21 +88,21 @@ log_admitted stamp who m l below =
     ap (λ (xs : List Stamped). map line_of (merged xs (map worker_stamped l.worker.entries))) senders
     ∙ (ap (map line_of) (merges_last stamp (flat_map entry_lines l.lane.history) (stamped stamp line.0) (map worker_stamped l.worker.entries) refl (below_worker stamp l.worker.entries below.worker))
     ∙ (map-append line_of (merged (flat_map entry_lines l.lane.history) (map worker_stamped l.worker.entries)) (stamped stamp line.0 ∷ [])
-    ∙ ap (λ (ls : List LaneLine). log_seen l ++ ls) (sym line.2)))
+    ∙ ap (λ (ls : List LaneLine). log_of l ++ ls) (sym line.2)))
 
-pub queue_admitted : (stamp : ℕ) (who : Actor) (m : Message) (l : HostLane) → queue_seen (admitted_lane stamp who m l) ≡ admit l.lane.room (record { sender = who.index; message = m }) (queue_seen l)
+pub queue_admitted : (stamp : ℕ) (who : Actor) (m : Message) (l : HostLane) → plain_queue (admitted_lane stamp who m l) ≡ admit l.lane.room (record { sender = who.index; message = m }) (plain_queue l)
 queue_admitted stamp who m l = go (nat_lt (length l.lane.waiting) l.lane.room) refl
   where
     w : Waiting
     w = sent_by who.index m
 
-    go : (b : Bool) → nat_lt (length l.lane.waiting) l.lane.room ≡ b → map waiting_seen (lane_after (admit_entry l.lane.room (sent_by who.index m) l.lane.waiting) l.lane.waiting) ≡ admit l.lane.room (record { sender = who.index; message = m }) (map waiting_seen l.lane.waiting)
+    go : (b : Bool) → nat_lt (length l.lane.waiting) l.lane.room ≡ b → map plain_waiting (lane_after (admit_entry l.lane.room (sent_by who.index m) l.lane.waiting) l.lane.waiting) ≡ admit l.lane.room (record { sender = who.index; message = m }) (map plain_waiting l.lane.waiting)
     go true e =
-        ap (λ (b : Bool). map waiting_seen (lane_after (if b then QueuedOne (sent_by who.index m) else QueueFull (sent_by who.index m)) l.lane.waiting)) e
-        ∙ (map-append waiting_seen l.lane.waiting (sent_by who.index m ∷ [])
-        ∙ sym (ap (λ (k : ℕ). lane_after (if nat_lt k l.lane.room then QueuedOne (record { sender = who.index; message = m }) else QueueFull (record { sender = who.index; message = m })) (map waiting_seen l.lane.waiting)) (length-map l.lane.waiting waiting_seen)
-        ∙ ap (λ (b : Bool). lane_after (if b then QueuedOne (record { sender = who.index; message = m }) else QueueFull (record { sender = who.index; message = m })) (map waiting_seen l.lane.waiting)) e))
+        ap (λ (b : Bool). map plain_waiting (lane_after (if b then QueuedOne (sent_by who.index m) else QueueFull (sent_by who.index m)) l.lane.waiting)) e
+        ∙ (map-append plain_waiting l.lane.waiting (sent_by who.index m ∷ [])
+        ∙ sym (ap (λ (k : ℕ). lane_after (if nat_lt k l.lane.room then QueuedOne (record { sender = who.index; message = m }) else QueueFull (record { sender = who.index; message = m })) (map plain_waiting l.lane.waiting)) (length-map l.lane.waiting plain_waiting)
+        ∙ ap (λ (b : Bool). lane_after (if b then QueuedOne (record { sender = who.index; message = m }) else QueueFull (record { sender = who.index; message = m })) (map plain_waiting l.lane.waiting)) e))
     go false e =
-        ap (λ (b : Bool). map waiting_seen (lane_after (if b then QueuedOne (sent_by who.index m) else QueueFull (sent_by who.index m)) l.lane.waiting)) e
-        ∙ sym (ap (λ (k : ℕ). lane_after (if nat_lt k l.lane.room then QueuedOne (record { sender = who.index; message = m }) else QueueFull (record { sender = who.index; message = m })) (map waiting_seen l.lane.waiting)) (length-map l.lane.waiting waiting_seen)
-        ∙ ap (λ (b : Bool). lane_after (if b then QueuedOne (record { sender = who.index; message = m }) else QueueFull (record { sender = who.index; message = m })) (map waiting_seen l.lane.waiting)) e)
+        ap (λ (b : Bool). map plain_waiting (lane_after (if b then QueuedOne (sent_by who.index m) else QueueFull (sent_by who.index m)) l.lane.waiting)) e
+        ∙ sym (ap (λ (k : ℕ). lane_after (if nat_lt k l.lane.room then QueuedOne (record { sender = who.index; message = m }) else QueueFull (record { sender = who.index; message = m })) (map plain_waiting l.lane.waiting)) (length-map l.lane.waiting plain_waiting)
+        ∙ ap (λ (b : Bool). lane_after (if b then QueuedOne (record { sender = who.index; message = m }) else QueueFull (record { sender = who.index; message = m })) (map plain_waiting l.lane.waiting)) e)

@@ -8,7 +8,7 @@ use Rattle.ds_script.specs.Replay.{onward}
 use Rattle.ds_label.specs.declared.rule.Rule.TheVariants.{TooLong}
 use Rattle.ds_script.specs.declared.note.Note.TheVariants as notes
 use Rattle.ds_script.specs.Process.{Process}
-use Rattle.ds_exporter.specs.Standing.{HostProcess}
+use Rattle.ds_exporter.specs.HostStates.{HostProcess}
 use Rattle.ds_exporter.specs.Running.{inside_of, ran_inside}
 
 some_is : (x y : Course) → Some x ≡ Some y → x ≡ y

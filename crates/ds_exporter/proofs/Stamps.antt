@@ -1,9 +1,9 @@
 -- What is below a stamp is below the next one.
 use Rattle.std.proofs.Common.{ℕ, ◌+◌, ◌<◌, ◌≤◌, List, arith}
 use Rattle.std.specs.Prelude.{All}
-use Rattle.ds_desk.specs.Desks.{Kept}
-use Rattle.ds_exporter.specs.Standing.{HostLane, Standing}
-use Rattle.ds_exporter.specs.Stamping.{AreBelow, IsLaneBelow, last_of_desk}
+use Rattle.ds_desk.specs.Desks.{DeskView}
+use Rattle.ds_exporter.specs.HostStates.{HostLane, HostState}
+use Rattle.ds_exporter.specs.Stamping.{IsBefore, IsLaneBefore, last_of_desk}
 
 pub all_more : {X : Type 0} (P Q : X → Type 0) (xs : List X) → ((x : X) → P x → Q x) → All P xs → All Q xs
 all_more P Q xs more all k d within = more _ (all k d within)
@@ -11,7 +11,7 @@ all_more P Q xs more all k d within = more _ (all k d within)
 pub below_suc : (n m : ℕ) → m < n → m < n + 1
 below_suc n m h = omega (arith, h)
 
-pub lane_more : (n : ℕ) (l : HostLane) → IsLaneBelow n l → IsLaneBelow (n + 1) l
+pub lane_more : (n : ℕ) (l : HostLane) → IsLaneBefore n l → IsLaneBefore (n + 1) l
 lane_more n l b = record {
   last = below_suc n _ b.last;
   senders = λ k d within. below_suc n _ (b.senders k d within);
@@ -19,7 +19,7 @@ lane_more n l b = record {
 }
 
 -- the other parts, beside a desk whose last stamp is this one or below it
-pub below_desk : (n : ℕ) (e : Standing) (k : Kept) → last_of_desk k ≤ n → AreBelow n e → AreBelow (n + 1) (record e { desk = k })
+pub below_desk : (n : ℕ) (e : HostState) (k : DeskView) → last_of_desk k ≤ n → IsBefore n e → IsBefore (n + 1) (record e { desk = k })
 below_desk n e k last b = record {
   desk = omega (arith, last);
   boxes = λ i d within. below_suc n _ (b.boxes i d within);
@@ -27,7 +27,7 @@ below_desk n e k last b = record {
   inlets = λ i d within. below_suc n _ (b.inlets i d within);
 }
 
-pub below_more : (n : ℕ) (e : Standing) → AreBelow n e → AreBelow (n + 1) e
+pub below_more : (n : ℕ) (e : HostState) → IsBefore n e → IsBefore (n + 1) e
 below_more n e b = record {
   desk = below_suc n _ b.desk;
   boxes = λ i d within. below_suc n _ (b.boxes i d within);

@@ -1,13 +1,13 @@
 -- A desk with the same key and table.
 use Rattle.std.proofs.Common.{◌≡◌, Some, sym, ap, subst, ◌∙◌}
 use Rattle.std.specs.Prelude.{All}
-use Rattle.ds_desk.specs.Desks.{Kept, IsReplay}
-use Rattle.ds_exporter.specs.Standing.{Standing}
-use Rattle.ds_exporter.specs.Seen.{inlet_named}
+use Rattle.ds_desk.specs.Desks.{DeskView, IsReplay}
+use Rattle.ds_exporter.specs.HostStates.{HostState}
+use Rattle.ds_exporter.specs.PlainHosts.{name_of_inlet}
 use Rattle.std.specs.Prelude.{map}
-use Rattle.ds_exporter.specs.Conditions.{Fits, IsLaneOf, LeadsTo}
+use Rattle.ds_exporter.specs.Conditions.{IsFit, IsLaneOf, LeadsTo}
 
-pub fits_desk : (e : Standing) (k : Kept) → Fits e → IsReplay k → k.here ≡ e.desk.here → k.desk.rows ≡ e.desk.desk.rows → Fits (record e { desk = k })
+pub fits_desk : (e : HostState) (k : DeskView) → IsFit e → IsReplay k → k.here ≡ e.desk.here → k.desk.rows ≡ e.desk.desk.rows → IsFit (record e { desk = k })
 fits_desk e k f replay here rows = record {
   desk = replay;
   place = f.place ∙ ap Some (sym here);
@@ -21,7 +21,7 @@ fits_desk e k f replay here rows = record {
   conn_actors = f.conn_actors;
   order = f.order;
   certs = subst (λ key. All (IsLaneOf key) e.lanes) (sym here) f.certs;
-  conns = subst (λ key. All (LeadsTo key (map inlet_named e.inlets)) e.conns) (sym here) f.conns;
+  conns = subst (λ key. All (LeadsTo key (map name_of_inlet e.inlets)) e.conns) (sym here) f.conns;
   named_procs = rw (here, rows) f.named_procs;
   named_boxes = rw (here, rows) f.named_boxes;
   named_conns = rw (here, rows) f.named_conns;
@@ -29,5 +29,5 @@ fits_desk e k f replay here rows = record {
   hands = f.hands;
   going = f.going;
   passed = f.passed;
-  read = f.read;
+  hellos = f.hellos;
 }

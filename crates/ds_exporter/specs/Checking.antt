@@ -9,7 +9,7 @@ use Rattle.ds_script.specs.declared.actor.Actor.{Actor}
 use Rattle.ds_desk.specs.Desks.{entered}
 use Rattle.ds_lane.specs.Workers.{framed, dropped}
 use Rattle.ds_scheme.specs.TheScheme.{scheme}
-use Rattle.ds_exporter.specs.Standing.{HostLane, Standing}
+use Rattle.ds_exporter.specs.HostStates.{HostLane, HostState}
 
 -- the rule by which the desk drops the messages of a lane with this certificate, if one fails
 abbrev pub lane_rule : Desk → LaneCert → Option Rule
@@ -21,5 +21,5 @@ checked_as stamp None l = record l { worker = framed stamp l.worker }
 checked_as stamp (Some rule) l = record l { worker = dropped stamp rule l.worker }
 
 -- the desk enters that it was read
-abbrev pub with_checked : (stamp place : ℕ) → Actor → Option Rule → Standing → Standing
+abbrev pub with_checked : (stamp place : ℕ) → Actor → Option Rule → HostState → HostState
 with_checked stamp place who rule e = record e { desk = entered stamp who Looked e.desk; lanes = at place (checked_as stamp rule) e.lanes }

@@ -10,27 +10,18 @@ use Rattle.ds_script.specs.declared.op.Op.TheVariants as ops
 use Rattle.ds_script.specs.declared.usable.Usable.{Usable}
 use Rattle.ds_msg.specs.declared.message.Message.{Message}
 use Rattle.ds_msg.specs.declared.local.LocalMessage.{LocalMessage}
-use Rattle.ds_cert.specs.declared.lane.LaneCert.{LaneCert}
-use Rattle.ds_frame.specs.declared.item.Item.{Item}
-use Rattle.ds_frame.specs.declared.item.Failure.{Failure}
-use Rattle.ds_inlet.specs.OfferedFrames.{OfferedFrame}
-use Rattle.ds_frame.specs.Laws.{Call, after, new_session, fed_by}
 use Rattle.ds_model.specs.Mapping.{to_number}
-use Rattle.ds_model.specs.Scheme.{InletName, Item as Seen}
-use Rattle.ds_model.specs.ConnectionStep.{hello_of}
+use Rattle.ds_model.specs.Scheme.{InletName}
 use Rattle.ds_map.specs.Labels.{have_names}
 use Rattle.ds_desk.specs.Desks.{IsReplay}
 use Rattle.ds_box.specs.declared.entry.BoxAct.{BoxAct}
 use Rattle.ds_box.specs.declared.entry.BoxAct.TheVariants.{Put, Full, Took}
 use Rattle.ds_box.specs.declared.entry.BoxEntry.{BoxEntry}
 use Rattle.ds_lane.specs.Lanes.{IsOn}
-use Rattle.ds_inlet.specs.Hosts.{host_reading, seen_of_items}
 use Rattle.ds_inlet.specs.Inlets.{CountedLane}
 use Rattle.ds_inlet.specs.Connections.{Connection}
-use Rattle.ds_inlet.specs.PlainConnections.{taken_of}
-use Rattle.ds_inlet.specs.Reads.{frame_read}
-use Rattle.ds_exporter.specs.Standing.{HostProcess, HostBox, HostLane, Standing}
-use Rattle.ds_exporter.specs.Seen.{inlet_named}
+use Rattle.ds_exporter.specs.HostStates.{HostProcess, HostBox, HostLane, HostState}
+use Rattle.ds_exporter.specs.PlainHosts.{name_of_inlet}
 
 -- WHAT DIFFERS
 
@@ -79,8 +70,8 @@ pub record IsConnOf (host : ℕ) (k : Connection) : Type 0 where
   pub at : k.who.host ≡ host
 
 -- a later connection has a greater index
-abbrev pub IsBefore : Connection → Connection → Type 0
-IsBefore a b = a.who.index < b.who.index
+abbrev pub ComesBefore : Connection → Connection → Type 0
+ComesBefore a b = a.who.index < b.who.index
 
 -- ONE HOST
 
@@ -111,10 +102,11 @@ IsActNamed here rows Took = Unit {0}
 abbrev pub IsEntryNamed : PubKey → List Category → BoxEntry → Type 0
 IsEntryNamed here rows entry = IsActNamed here rows entry.act
 
--- of a mailbox: its label, what waits, and its entries
+-- of a mailbox: its label, what waits, what waited at its opening, and its entries
 pub record IsBoxNamed (here : PubKey) (rows : List Category) (b : HostBox) : Type 0 where
   pub label : IsTrue (have_names here rows (b.mailbox.label ∷ []))
   pub waiting : All (IsMailNamed here rows) b.mailbox.waiting
+  pub opening : All (IsMailNamed here rows) b.mailbox.opening
   pub history : All (IsEntryNamed here rows) b.mailbox.history
 
 -- of a process
@@ -165,38 +157,13 @@ HasBox boxes (Some x) = Any (λ b. b.slot ≡ x.0) boxes
 abbrev pub PassedHasBox : List HostBox → Connection → Type 0
 PassedHasBox boxes k = HasBox boxes k.passed
 
--- STREAMS
-
--- a passed message is from the exporter of the hello
-abbrev pub IsFromPeer : Option LaneCert → Option (ℕ × LocalMessage) → Type 0
-IsFromPeer lane None = Unit {0}
-IsFromPeer (Some lane) (Some x) = x.1.from ≡ lane.exporter
-IsFromPeer None (Some x) = ⊥
-
--- an offered frame doesn't come behind a failure
-abbrev pub IsUnbroken : Option OfferedFrame → Option Failure → Type 0
-IsUnbroken None failure = Unit {0}
-IsUnbroken (Some o) failure = failure ≡ None
-
--- What a connection has read of its stream. Its reader came about by calls that fed it all that arrived, and took as many items
--- as the connection took, and after them the frame that is offered; the first item is its hello. Before the hello nothing is in
--- hand; a message that passed is from the hello's exporter.
-pub record HasRead (k : Connection) : Type 0 where
-  pub calls : List Call
-  pub items : List Item
-  pub fed : fed_by calls ≡ k.arrived
-  pub session : after (host_reading k.here k.inlets) calls new_session ≡ record { handed = items; reader = k.reader }
-  pub front : List Seen
-  pub seen : seen_of_items k.here k.inlets items ≡ front ++ frame_read k.offered
-  pub taken : length front ≡ taken_of k
-  pub hello : hello_of (slice_get (seen_of_items k.here k.inlets items) 0) ≡ k.reader.lane
-  pub none_before : k.reader.lane ≡ None → k.hand ≡ []
-  pub from : IsFromPeer k.reader.lane k.passed
-  pub unbroken : IsUnbroken k.offered k.reader.failure
+-- before its hello a connection has no message
+abbrev pub HasHelloFirst : Connection → Type 0
+HasHelloFirst k = k.reader.lane ≡ None → (k.hand ≡ []) × (k.passed ≡ None)
 
 -- THE CONDITIONS
 
-pub record Fits (e : Standing) : Type 0 where
+pub record IsFit (e : HostState) : Type 0 where
   -- the desk is the replay of its history, and its key is the one of the host's place
   pub desk : IsReplay e.desk
   pub place : slice_get e.keys e.host ≡ Some e.desk.here
@@ -212,10 +179,10 @@ pub record Fits (e : Standing) : Type 0 where
   -- actors are of this host, lanes by their numbers, connections in their order
   pub lane_actors : AreLaneActors e.host e.lanes
   pub conn_actors : All (IsConnOf e.host) e.conns
-  pub order : AllPairs IsBefore e.conns
+  pub order : AllPairs ComesBefore e.conns
   -- lanes and connections are of this host
   pub certs : All (IsLaneOf e.desk.here) e.lanes
-  pub conns : All (LeadsTo e.desk.here (map inlet_named e.inlets)) e.conns
+  pub conns : All (LeadsTo e.desk.here (map name_of_inlet e.inlets)) e.conns
   -- each local number has a name in the desk's table, and usable names have the table's numbers
   pub named_procs : All (IsProcNamed e.desk.here e.desk.desk.rows) e.procs
   pub named_boxes : All (IsBoxNamed e.desk.here e.desk.desk.rows) e.boxes
@@ -225,5 +192,5 @@ pub record Fits (e : Standing) : Type 0 where
   pub hands : All (HandHasLane e.lanes) e.procs
   pub going : All IsGoing e.procs
   pub passed : All (PassedHasBox e.boxes) e.conns
-  -- connections have read their streams
-  pub read : All HasRead e.conns
+  -- connections have messages behind their hellos
+  pub hellos : All HasHelloFirst e.conns

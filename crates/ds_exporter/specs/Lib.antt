@@ -1,10 +1,10 @@
-pub mod Standing
+pub mod HostStates
 pub mod Merging
-pub mod Seen
+pub mod PlainHosts
 pub mod Conditions
 pub mod Stamping
+pub mod Moving
 pub mod Lifting
 pub mod Checking
 pub mod Running
-pub mod Unread
 pub mod Queueing

@@ -5,7 +5,7 @@ use Rattle.ds_model.specs.Lane.{front}
 use Rattle.ds_lane.specs.declared.batch.Waiting.{Waiting}
 use Rattle.ds_lane.specs.Lanes.{entered, lift_entry}
 use Rattle.ds_lane.specs.Workers.{holding}
-use Rattle.ds_exporter.specs.Standing.{HostLane}
+use Rattle.ds_exporter.specs.HostStates.{HostLane}
 
 -- the first waiting messages go to the worker's hand
 abbrev pub lifted_from : (stamp : ℕ) → HostLane → List Waiting → HostLane

@@ -1,8 +1,6 @@
 -- A lane's printed lines: those of its senders and those of its worker, by their stamps.
 use Rattle.std.specs.Prelude.{ℕ, List, [], ◌∷◌, map, nat_lt, if◌then◌else◌}
 use Rattle.std.specs.List.{flat_map}
-use Rattle.ds_msg.specs.declared.message.Message.{Message}
-use Rattle.ds_model.specs.Keys.{no_key}
 use Rattle.ds_model.specs.World.{Waiting, LaneLine, QueuedLine, FullLine, FramedLine, DroppedLine}
 use Rattle.ds_lane.specs.declared.batch.Waiting.{Waiting as SentMessage}
 use Rattle.ds_lane.specs.declared.entry.LaneAct.{LaneAct}
@@ -13,15 +11,8 @@ use Rattle.ds_lane.specs.declared.worker_entry.WorkerAct.TheVariants.{Framed, Dr
 use Rattle.ds_lane.specs.declared.worker_entry.WorkerEntry.{WorkerEntry}
 
 -- a message on a lane
-abbrev pub waiting_seen : SentMessage → Waiting
-waiting_seen w = record { sender = w.from; message = w.message }
-
--- A dropped message, of which the line keeps the sender and the slot alone.
-abbrev pub slot_alone : ℕ → Message
-slot_alone slot = record { to = no_key; slot = slot; label = []; own = []; clear = []; certs = []; payload = [] }
-
-abbrev pub dropped_from : (from slot : ℕ) → Waiting
-dropped_from from slot = record { sender = from; message = slot_alone slot }
+abbrev pub plain_waiting : SentMessage → Waiting
+plain_waiting w = record { sender = w.from; message = w.message }
 
 -- a line and its stamp
 pub record Stamped : Type 0 where
@@ -30,8 +21,8 @@ pub record Stamped : Type 0 where
 
 -- the line of a sender's entry; none for a lift
 abbrev pub act_lines : ℕ → LaneAct → List Stamped
-act_lines stamp (Queued w) = record { stamp = stamp; line = QueuedLine (waiting_seen w) } ∷ []
-act_lines stamp (Full w) = record { stamp = stamp; line = FullLine (waiting_seen w) } ∷ []
+act_lines stamp (Queued w) = record { stamp = stamp; line = QueuedLine (plain_waiting w) } ∷ []
+act_lines stamp (Full w) = record { stamp = stamp; line = FullLine (plain_waiting w) } ∷ []
 act_lines stamp (Lifted count) = []
 
 abbrev pub entry_lines : LaneEntry → List Stamped
@@ -40,7 +31,7 @@ entry_lines entry = act_lines entry.stamp entry.act
 -- the line of the worker's entry
 abbrev pub worker_line : WorkerAct → LaneLine
 worker_line (Framed number count) = FramedLine number count
-worker_line (Dropped rule from slot) = DroppedLine rule (dropped_from from slot)
+worker_line (Dropped rule from slot) = DroppedLine rule from slot
 
 abbrev pub worker_stamped : WorkerEntry → Stamped
 worker_stamped entry = record { stamp = entry.stamp; line = worker_line entry.act }

@@ -12,7 +12,7 @@ use Rattle.ds_msg.specs.declared.message.Message.{Message}
 use Rattle.ds_model.specs.Keys.{same_key}
 use Rattle.ds_model.specs.Lane.{admit_entry}
 use Rattle.ds_lane.specs.Lanes.{entered, sent_by}
-use Rattle.ds_exporter.specs.Standing.{HostLane, HostProcess}
+use Rattle.ds_exporter.specs.HostStates.{HostLane, HostProcess}
 
 -- whether it is the lane to that exporter with that label
 abbrev pub is_lane_for : PubKey → List Category → HostLane → Bool

@@ -1,7 +1,7 @@
 -- A process that runs an operation inside itself.
 use Rattle.std.specs.Prelude.{unwrap_or, Option}
 use Rattle.ds_script.specs.Inner.{Course, inner}
-use Rattle.ds_exporter.specs.Standing.{HostProcess}
+use Rattle.ds_exporter.specs.HostStates.{HostProcess}
 
 -- the course after the operation, where it is one of the five inside a process
 abbrev pub inside_of : HostProcess → Option Course

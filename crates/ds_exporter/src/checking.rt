@@ -1,16 +1,14 @@
 //! A lane's worker, with something in hand.
 #![tactic(auto)]
 
-ghost use Rattle.std.specs.Prelude.{◌≡◌, ◌<◌, ◌≤◌, Some, Err, length, map, slice_get, OnOk, OnErr, IfOk};
+ghost use Rattle.std.specs.Prelude.{◌≡◌, ◌<◌, ◌≤◌, Err, length, OnOk, OnErr, IfOk};
 ghost use Rattle.ds_base.specs.Counts.{Rose};
-ghost use Rattle.ds_model.specs.Lists.{at};
-ghost use Rattle.ds_lane.specs.Workers.{IsHolding};
 ghost use Rattle.ds_desk.specs.Desks.{desk_of};
-ghost use Rattle.ds_exporter.specs.Standing.{HostLane, lane_of};
+ghost use Rattle.ds_exporter.specs.HostStates.{lane_of};
 ghost use Rattle.ds_exporter.specs.Checking.{lane_rule, checked_as};
 
 use crate::moved::CoreFault;
-use crate::parts::{LaneList, LanePart};
+use crate::parts::LanePart;
 use ds_base::Keeper;
 use ds_cert::LaneCert;
 use ds_desk::DeskState;

@@ -3,8 +3,8 @@
 
 ghost use Rattle.std.specs.Prelude.{◌≡◌, map};
 ghost use Rattle.ds_desk.specs.Desks.{kept_of};
-ghost use Rattle.ds_exporter.specs.Standing.{standing_of, process_of, box_of, lane_of, inlet_of, conn_of};
-ghost use Rattle.ds_exporter.specs.Conditions.{Fits};
+ghost use Rattle.ds_exporter.specs.HostStates.{state_of, process_of, box_of, lane_of, inlet_of, connection_of};
+ghost use Rattle.ds_exporter.specs.Conditions.{IsFit};
 
 use crate::parts::{BoxList, ConnList, ExporterParts, InletList, KeyList, LaneList, ProcList};
 use ds_desk::DeskState;
@@ -18,16 +18,16 @@ pub struct Exporter {
 }
 
 impl Model for Exporter {
-    ghost use Rattle.ds_exporter.specs.Standing.{Standing};
+    ghost use Rattle.ds_exporter.specs.HostStates.{HostState};
 
-    ghost Value = { Standing };
+    ghost Value = { HostState };
 
-    ghost use Rattle.ds_exporter.specs.Standing.{standing_of};
-    ghost use Rattle.ds_exporter.specs.Conditions.{Fits};
+    ghost use Rattle.ds_exporter.specs.HostStates.{state_of};
+    ghost use Rattle.ds_exporter.specs.Conditions.{IsFit};
 
-    ghost view = { λ e. standing_of e.parts };
+    ghost view = { λ e. state_of e.parts };
 
-    ghost invariant = { λ e. Fits (standing_of e.parts) };
+    ghost invariant = { λ e. IsFit (state_of e.parts) };
 }
 
 impl Exporter {
@@ -44,9 +44,8 @@ impl Exporter {
     /// - Each local number in a process, a mailbox or a passed message has a name in the desk's table.
     /// - A message in a process's hand is in the ranges of its format, one of the lanes has its receiver and label, and the
     ///   process hasn't ended.
-    /// - A passed message's slot is a mailbox's, and it is from the exporter of the connection's hello.
+    /// - A passed message's slot is a mailbox's. Behind its hello alone has a connection a message in hand or a passed one.
     /// - Usable names have the table's local numbers.
-    /// - What a connection has read, it read of the bytes that arrived there.
     ///
     /// It takes no memory.
     pub fn new(
@@ -59,8 +58,8 @@ impl Exporter {
         inlets: InletList,
         conns: ConnList,
     ) -> Exporter
-        requires { Fits (standing_of (record { host = host; keys = keys; desk = desk; procs = procs; boxes = boxes; lanes = lanes; inlets = inlets; conns = conns })) }
-        ensures { result ≡ standing_of (record { host = host; keys = keys; desk = desk; procs = procs; boxes = boxes; lanes = lanes; inlets = inlets; conns = conns }) }
+        requires { IsFit (state_of (record { host = host; keys = keys; desk = desk; procs = procs; boxes = boxes; lanes = lanes; inlets = inlets; conns = conns })) }
+        ensures { result ≡ state_of (record { host = host; keys = keys; desk = desk; procs = procs; boxes = boxes; lanes = lanes; inlets = inlets; conns = conns }) }
     {
         Exporter {
             parts: ExporterParts {
@@ -78,8 +77,8 @@ impl Exporter {
 
     /// The parts, which fit. It takes no memory.
     pub fn into_parts(self) -> ExporterParts
-        ensures parts { standing_of result ≡ self }
-        ensures fit { Fits self }
+        ensures parts { state_of result ≡ self }
+        ensures fit { IsFit self }
     {
         self.parts
     }
@@ -135,14 +134,14 @@ impl Exporter {
 
     /// The connections.
     pub fn conns(&self) -> &ConnList
-        ensures { map conn_of result.now.items ≡ self.now.conns }
+        ensures { map connection_of result.now.items ≡ self.now.conns }
     {
         &self.parts.conns
     }
 
     /// What every exporter keeps: its parts fit. It does nothing.
     pub fn fit(&self)
-        ensures { Fits self.now }
+        ensures { IsFit self.now }
     {
         let _host = self.parts.host;
     }

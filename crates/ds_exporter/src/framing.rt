@@ -1,19 +1,20 @@
 //! Lanes' workers.
 #![tactic(auto)]
 
-ghost use Rattle.std.specs.Prelude.{◌≡◌, ◌≢◌, ◌<◌, ◌≤◌, ◌+◌, ◌-◌, ◌↔◌, [], Some, Err, false, length, map, slice_get, IsTrue, OnOk, OnErr, IfOk};
+ghost use Rattle.std.specs.Prelude.{◌≡◌, ◌≢◌, ◌<◌, ◌≤◌, ◌-◌, ◌↔◌, [], Some, Ok, Err, false, length, map, slice_get, IsTrue, OnOk, OnErr, IfOk};
 ghost use Rattle.ds_base.specs.Counts.{Rose};
 ghost use Rattle.ds_desk.specs.Desks.{desk_of};
 ghost use Rattle.ds_model.specs.Lists.{at};
 ghost use Rattle.ds_model.specs.Step.{step_lane};
 ghost use Rattle.ds_lane.specs.Lanes.{last_stamp};
-ghost use Rattle.ds_scheme.specs.TheScheme.{scheme};
-ghost use Rattle.ds_exporter.specs.Standing.{HostLane, lane_of};
-ghost use Rattle.ds_exporter.specs.Seen.{bare_host, host_seen, plan_seen};
-ghost use Rattle.ds_exporter.specs.Checking.{checked_as, lane_rule, with_checked};
 ghost use Rattle.ds_lane.specs.Workers.{IsHolding};
+ghost use Rattle.ds_scheme.specs.TheScheme.{scheme};
+ghost use Rattle.ds_exporter.specs.HostStates.{HostLane, lane_of};
+ghost use Rattle.ds_exporter.specs.PlainHosts.{host_of, site_of};
+ghost use Rattle.ds_exporter.specs.Checking.{checked_as, lane_rule};
 ghost use Rattle.ds_exporter.specs.Lifting.{lifted_lane};
-ghost use Rattle.ds_exporter.specs.Stamping.{AreBelow};
+ghost use Rattle.ds_exporter.specs.Moving.{Moves};
+ghost use Rattle.ds_exporter.specs.Stamping.{IsBefore, IsUpTo};
 
 use crate::checking::frame_rule;
 use crate::exporter::Exporter;
@@ -53,7 +54,7 @@ fn worker_at(lanes: &LaneList, place: usize) -> Actor
     ensures who { (l : HostLane) → slice_get (map lane_of lanes.now.items) place ≡ Some l → result ≡ l.worker.who }
 {
     let end = &lanes[place].end;
-    end.is_holding();
+    let _hand = end.hand();
     end.who()
 }
 
@@ -91,14 +92,13 @@ impl Exporter {
     fn lift(&mut self, stamp: u64, place: usize) -> Result<Moved, AllocError>
         requires place { place < length self.old.lanes }
         requires empty { (l : HostLane) → slice_get self.old.lanes place ≡ Some l → l.worker.hand ≡ [] }
-        requires later { AreBelow stamp self.old }
-        ensures state { OnOk result (self.new ≡ record self.old { lanes = at place (lifted_lane stamp) self.old.lanes }) }
-        ensures host { OnOk result (host_seen self.new ≡ step_lane scheme (plan_seen self.old) (host_seen self.old) place (slice_get (host_seen self.old).workers place)) }
-        ensures plan { OnOk result (plan_seen self.new ≡ plan_seen self.old) }
-        ensures rest { self.new ≡ record self.old { lanes = self.new.lanes } }
-        ensures still { IfOk result (λ moved. (moved ≡ Moved.Still) ↔ (host_seen self.new ≡ host_seen self.old)) }
+        requires later { IsBefore stamp self.old }
+        ensures ok { IfOk result (λ moved. Moves moved (host_of self.old) (host_of self.new) (step_lane scheme (site_of self.old) (host_of self.old) place (slice_get (host_of self.old).workers place))) }
+        ensures site { site_of self.new ≡ site_of self.old }
+        ensures conns { self.new.conns ≡ self.old.conns }
+        ensures still { result ≡ Ok Moved.Still → self.new ≡ self.old }
         ensures err { OnErr result (self.new ≡ self.old) }
-        ensures stamps { AreBelow (stamp + 1) self.new }
+        ensures stamps { IsUpTo stamp self.new }
     {
         if lift_at(&mut self.parts.lanes, place, stamp)? {
             return Ok(Moved::Changed);
@@ -116,15 +116,13 @@ impl Exporter {
     ) -> Result<(), CoreFault>
         requires place { place < length self.old.lanes }
         requires some { (l : HostLane) → slice_get self.old.lanes place ≡ Some l → 0 < length l.worker.hand }
-        requires later { AreBelow stamp self.old }
-        ensures state { OnOk result ((l : HostLane) → slice_get self.old.lanes place ≡ Some l →
-            self.new ≡ with_checked stamp place l.worker.who (lane_rule self.old.desk.desk l.worker.cert) self.old) }
-        ensures host { OnOk result (host_seen self.new ≡ bare_host (step_lane scheme (plan_seen self.old) (host_seen self.old) place (slice_get (host_seen self.old).workers place))) }
-        ensures changed { OnOk result (host_seen self.new ≢ host_seen self.old) }
-        ensures plan { OnOk result (plan_seen self.new ≡ plan_seen self.old) }
-        ensures rest { self.new ≡ record self.old { desk = self.new.desk; lanes = self.new.lanes } }
+        requires later { IsBefore stamp self.old }
+        ensures host { OnOk result (host_of self.new ≡ step_lane scheme (site_of self.old) (host_of self.old) place (slice_get (host_of self.old).workers place)) }
+        ensures changed { OnOk result (host_of self.new ≢ host_of self.old) }
+        ensures site { site_of self.new ≡ site_of self.old }
+        ensures conns { self.new.conns ≡ self.old.conns }
         ensures err { OnErr result (self.new ≡ self.old) }
-        ensures stamps { AreBelow (stamp + 1) self.new }
+        ensures stamps { IsUpTo stamp self.new }
         ensures faults { K.faults keeper.old ≤ K.faults keeper.new }
         ensures fault { result ≡ Err CoreFault.KeeperFault → Rose (K.faults keeper.old) (K.faults keeper.new) }
         ensures untouched { result ≡ Err CoreFault.NoMemory → keeper.new ≡ keeper.old }
@@ -148,7 +146,6 @@ impl Exporter {
     /// - `NoMemory` where memory runs out. The keeper is as it was.
     ///
     /// Nothing changed after either.
-    #[tactic(auto, using(crate::proofs::CheckedHosts::bare_is))]
     pub fn frame<K: Keeper>(
         &mut self,
         stamp: u64,
@@ -157,14 +154,13 @@ impl Exporter {
     ) -> Result<Moved, CoreFault>
         requires first { 0 < lane }
         requires last { lane ≤ length self.old.lanes }
-        requires later { AreBelow stamp self.old }
-        // A dropped message's line keeps its sender and its slot alone.
-        ensures host { OnOk result (host_seen self.new ≡ bare_host (step_lane scheme (plan_seen self.old) (host_seen self.old) (lane - 1) (slice_get (host_seen self.old).workers (lane - 1)))) }
-        ensures plan { OnOk result (plan_seen self.new ≡ plan_seen self.old) }
-        ensures rest { self.new ≡ record self.old { desk = self.new.desk; lanes = self.new.lanes } }
-        ensures still { IfOk result (λ moved. (moved ≡ Moved.Still) ↔ (host_seen self.new ≡ host_seen self.old)) }
+        requires later { IsBefore stamp self.old }
+        ensures ok { IfOk result (λ moved. Moves moved (host_of self.old) (host_of self.new) (step_lane scheme (site_of self.old) (host_of self.old) (lane - 1) (slice_get (host_of self.old).workers (lane - 1)))) }
+        ensures site { site_of self.new ≡ site_of self.old }
+        ensures conns { self.new.conns ≡ self.old.conns }
+        ensures still { result ≡ Ok Moved.Still → self.new ≡ self.old }
         ensures err { OnErr result (self.new ≡ self.old) }
-        ensures stamps { AreBelow (stamp + 1) self.new }
+        ensures stamps { IsUpTo stamp self.new }
         ensures faults { K.faults keeper.old ≤ K.faults keeper.new }
         ensures fault { result ≡ Err CoreFault.KeeperFault → Rose (K.faults keeper.old) (K.faults keeper.new) }
         ensures untouched { result ≡ Err CoreFault.NoMemory → keeper.new ≡ keeper.old }

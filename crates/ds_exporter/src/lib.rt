@@ -6,7 +6,6 @@ mod arriving;
 mod checking;
 mod exporter;
 mod framing;
-mod laws;
 mod lifting;
 mod moved;
 mod parts;
@@ -15,7 +14,6 @@ mod running;
 mod ticking;
 
 pub use exporter::Exporter;
-pub use laws::{names_stay, new_connections_have_read, nothing_bare_is_read};
 pub use moved::{CoreFault, Moved};
 pub use parts::{
     BoxList, BoxPart, ConnList, ExporterParts, InletList, KeyList, LaneList, LanePart, ProcList,

@@ -3,7 +3,7 @@
 
 ghost use Rattle.std.specs.Prelude.{◌≡◌, ◌<◌, ◌↔◌, [], false, OnOk, OnErr, IfOk};
 ghost use Rattle.ds_lane.specs.Lanes.{last_stamp};
-ghost use Rattle.ds_exporter.specs.Standing.{lane_of};
+ghost use Rattle.ds_exporter.specs.HostStates.{lane_of};
 ghost use Rattle.ds_exporter.specs.Lifting.{lifted_lane};
 
 use crate::parts::LanePart;

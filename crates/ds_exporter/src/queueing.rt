@@ -5,7 +5,7 @@ ghost use Rattle.std.specs.Prelude.{◌≡◌, ◌<◌, Some, true, length, map,
 ghost use Rattle.ds_lane.specs.Lanes.{IsOn, last_stamp};
 ghost use Rattle.ds_label.specs.Flow.{same_label};
 ghost use Rattle.ds_label.specs.Names.{by_name};
-ghost use Rattle.ds_exporter.specs.Standing.{HostLane, lane_of, process_of};
+ghost use Rattle.ds_exporter.specs.HostStates.{HostLane, lane_of, process_of};
 ghost use Rattle.ds_exporter.specs.Queueing.{admitted_lane, is_lane_for, queued_proc};
 
 use crate::parts::{LaneList, LanePart, ProcPart};

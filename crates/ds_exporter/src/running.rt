@@ -1,14 +1,14 @@
 //! Operations inside a process.
 #![tactic(auto)]
 
-ghost use Rattle.std.specs.Prelude.{◌≡◌, ◌≢◌, ◌↔◌, ◌<◌, ◌+◌, Some, None, length, map, slice_get, OnOk, OnErr, IfOk};
+ghost use Rattle.std.specs.Prelude.{◌≡◌, ◌≢◌, ◌↔◌, ◌<◌, Some, None, length, map, slice_get, OnOk, OnErr, IfOk};
 ghost use Rattle.ds_model.specs.Lists.{at};
 ghost use Rattle.ds_model.specs.Step.{step_proc};
 ghost use Rattle.ds_scheme.specs.TheScheme.{scheme};
-ghost use Rattle.ds_exporter.specs.Standing.{HostProcess, process_of};
-ghost use Rattle.ds_exporter.specs.Seen.{host_seen, plan_seen};
+ghost use Rattle.ds_exporter.specs.HostStates.{HostProcess, process_of};
+ghost use Rattle.ds_exporter.specs.PlainHosts.{host_of, site_of};
 ghost use Rattle.ds_exporter.specs.Running.{inside_of, ran_inside};
-ghost use Rattle.ds_exporter.specs.Stamping.{AreBelow};
+ghost use Rattle.ds_exporter.specs.Stamping.{IsBefore, IsUpTo};
 
 use crate::exporter::Exporter;
 use crate::moved::Moved;
@@ -62,15 +62,15 @@ impl Exporter {
     ) -> Result<Option<Moved>, AllocError>
         requires place { place < length self.old.procs }
         requires free { (x : HostProcess) → slice_get self.old.procs place ≡ Some x → x.hand ≡ None }
-        requires later { AreBelow stamp self.old }
+        requires later { IsBefore stamp self.old }
         ensures state { OnOk result (self.new ≡ record self.old { procs = at place ran_inside self.old.procs }) }
-        ensures host { IfOk result (λ ran. ran ≢ None → host_seen self.new ≡ step_proc scheme (plan_seen self.old) (host_seen self.old) place (slice_get (host_seen self.old).procs place)) }
+        ensures host { IfOk result (λ ran. ran ≢ None → host_of self.new ≡ step_proc scheme (site_of self.old) (host_of self.old) place (slice_get (host_of self.old).procs place)) }
         ensures outer { IfOk result (λ ran. ran ≡ None → (self.new ≡ self.old) × ((x : HostProcess) → slice_get self.old.procs place ≡ Some x → inside_of x ≡ None)) }
         ensures still { IfOk result (λ ran. ran ≡ Some Moved.Still → self.new ≡ self.old) }
-        ensures changed { IfOk result (λ ran. ran ≡ Some Moved.Changed → host_seen self.new ≢ host_seen self.old) }
-        ensures plan { OnOk result (plan_seen self.new ≡ plan_seen self.old) }
+        ensures changed { IfOk result (λ ran. ran ≡ Some Moved.Changed → host_of self.new ≢ host_of self.old) }
+        ensures site { OnOk result (site_of self.new ≡ site_of self.old) }
         ensures err { OnErr result (self.new ≡ self.old) }
-        ensures stamps { AreBelow (stamp + 1) self.new }
+        ensures stamps { IsUpTo stamp self.new }
     {
         let ran = run_at(&mut self.parts.procs, place)?;
         Ok(ran)

@@ -1,8 +1,8 @@
 use Rattle.std.proofs.Common.{◌≡◌, ◌↔◌, Bool, false, [], Some, map, slice_get, sym, ◌∙◌, subst}
-use Rattle.ds_exporter.specs.Standing.{HostLane}
+use Rattle.ds_exporter.specs.HostStates.{HostLane}
 use Rattle.ds_exporter.specs.Lifting.{lifted_lane}
 use Rattle.ds_exporter.proofs.IfDone.{if_done}
-use Rattle.ds_exporter.specs.Standing.{lane_of}
+use Rattle.ds_exporter.specs.HostStates.{lane_of}
 use Rattle.ds_exporter.proofs.Places.{some_is, stands_now}
 use Rattle.ds_exporter.proofs.framing.lift_at.Goals as goal
 

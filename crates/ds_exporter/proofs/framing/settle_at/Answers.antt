@@ -1,4 +1,4 @@
-use Rattle.ds_exporter.specs.Standing.{lane_of}
+use Rattle.ds_exporter.specs.HostStates.{lane_of}
 use Rattle.ds_exporter.proofs.Places.{stands_now}
 use Rattle.ds_exporter.proofs.framing.settle_at.Goals as goal
 

@@ -1,6 +1,6 @@
 use Rattle.std.proofs.Common.{◌∙◌, ap}
 use Rattle.std.specs.Prelude.{position}
-use Rattle.ds_exporter.specs.Standing.{lane_of}
+use Rattle.ds_exporter.specs.HostStates.{lane_of}
 use Rattle.ds_exporter.specs.Queueing.{is_lane_for}
 use Rattle.ds_exporter.proofs.Queues.{position_seen}
 use Rattle.ds_exporter.proofs.queueing.lane_for.Goals as goal

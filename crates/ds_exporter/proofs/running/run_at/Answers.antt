@@ -2,7 +2,7 @@ use Rattle.std.proofs.Common.{◌≡◌, ◌↔◌, Some, None, map, slice_get, 
 use Rattle.std.specs.Prelude.{◌≢◌, Option}
 use Rattle.ds_exporter.specs.declared.moved.Moved.{Moved}
 use Rattle.ds_exporter.specs.declared.moved.Moved.TheVariants.{Still, Changed}
-use Rattle.ds_exporter.specs.Standing.{HostProcess, process_of}
+use Rattle.ds_exporter.specs.HostStates.{HostProcess, process_of}
 use Rattle.ds_exporter.specs.Running.{inside_of, ran_inside}
 use Rattle.ds_exporter.proofs.IfDone.{if_done}
 use Rattle.ds_exporter.proofs.Places.{some_is, stands_now}

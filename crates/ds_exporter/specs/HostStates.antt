@@ -4,7 +4,7 @@ use Rattle.std.specs.Prelude.{ℕ, List, Option, map}
 use Rattle.ds_label.specs.declared.category.PubKey.{PubKey}
 use Rattle.ds_script.specs.Process.{Process}
 use Rattle.ds_msg.specs.declared.message.Message.{Message}
-use Rattle.ds_desk.specs.Desks.{Kept, kept_of}
+use Rattle.ds_desk.specs.Desks.{DeskView, kept_of}
 use Rattle.ds_box.specs.Boxes.{Mailbox}
 use Rattle.ds_lane.specs.Lanes.{Lane}
 use Rattle.ds_lane.specs.Workers.{Worker}
@@ -31,10 +31,10 @@ pub record HostLane : Type 0 where
   pub worker : Worker
 
 -- the host's place in the document, the keys of all hosts, and the parts, by their places
-pub record Standing : Type 0 where
+pub record HostState : Type 0 where
   pub host : ℕ
   pub keys : List PubKey
-  pub desk : Kept
+  pub desk : DeskView
   pub procs : List HostProcess
   pub boxes : List HostBox
   pub lanes : List HostLane
@@ -54,12 +54,12 @@ lane_of l = record { lane = l.state.lane; worker = l.end.worker }
 abbrev pub inlet_of : InletWithCapacity → CountedLane
 inlet_of i = i.inlet
 
-abbrev pub conn_of : ConnectionWithCapacity → Connection
-conn_of k = k.conn
+abbrev pub connection_of : ConnectionWithCapacity → Connection
+connection_of k = k.conn
 
 -- the exporter of these parts
-abbrev pub standing_of : ExporterParts → Standing
-standing_of p = record {
+abbrev pub state_of : ExporterParts → HostState
+state_of p = record {
   host = p.host;
   keys = p.keys.items;
   desk = kept_of p.desk;
@@ -67,5 +67,5 @@ standing_of p = record {
   boxes = map box_of p.boxes.items;
   lanes = map lane_of p.lanes.items;
   inlets = map inlet_of p.inlets.items;
-  conns = map conn_of p.conns.items;
+  conns = map connection_of p.conns.items;
 }
