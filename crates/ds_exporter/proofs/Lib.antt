@@ -5,6 +5,8 @@ pub mod OneConn
 pub mod Lifts
 pub mod OneLane
 pub mod IfDone
+pub mod Accepts
+pub mod Ends
 pub mod Judged
 pub mod Merged
 pub mod Checks

@@ -111,3 +111,9 @@ pub there_is : {X : Type 0} (P : Type 0) (xs : List X) (i : ℕ) → i < length 
 there_is P [] i w f = absurd (omega (arith, w))
 there_is P (x ∷ xs) zero w f = f x refl
 there_is P (x ∷ xs) (suc i) w f = there_is P xs i (omega (arith, w)) f
+
+-- what was written at a place stands there
+pub set_stands : {X : Type 0} (xs : List X) (i : ℕ) (new : X) → i < length xs → slice_get (slice_set xs i new) i ≡ Some new
+set_stands [] i new w = absurd (omega (arith, w))
+set_stands (x ∷ xs) zero new w = refl
+set_stands (x ∷ xs) (suc i) new w = set_stands xs i new (omega (arith, w))

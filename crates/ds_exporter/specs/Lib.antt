@@ -8,3 +8,4 @@ pub mod Lifting
 pub mod Checking
 pub mod Running
 pub mod Queueing
+pub mod Accepting

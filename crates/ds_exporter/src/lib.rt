@@ -2,6 +2,7 @@
 //! one event, and is the plain world's step for it, with the mapping table's names in place of the host's own numbers.
 #![tactic(auto)]
 
+mod accepting;
 mod arriving;
 mod checking;
 mod exporter;
