@@ -1,0 +1,16 @@
+pub mod Places
+pub mod Tables
+pub mod Stamps
+pub mod OneConn
+pub mod Lifts
+pub mod OneLane
+pub mod IfDone
+pub mod Accepts
+pub mod Ends
+pub mod Judged
+pub mod Merged
+pub mod Checks
+pub mod CheckedHosts
+pub mod Runs
+pub mod OneProc
+pub mod Queues

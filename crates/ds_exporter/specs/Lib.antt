@@ -1,0 +1,11 @@
+pub mod HostStates
+pub mod Merging
+pub mod PlainHosts
+pub mod Conditions
+pub mod Stamping
+pub mod Moving
+pub mod Lifting
+pub mod Checking
+pub mod Running
+pub mod Queueing
+pub mod Accepting

@@ -1,0 +1,22 @@
+//! The exporter of one host: its desk, its processes, its mailboxes, lanes and inlets, and the connections to it. Each call does
+//! one event, and is the plain world's step for it, with the mapping table's names in place of the host's own numbers.
+#![tactic(auto)]
+
+mod accepting;
+mod arriving;
+mod checking;
+mod exporter;
+mod framing;
+mod lifting;
+mod moved;
+mod parts;
+mod queueing;
+mod running;
+mod ticking;
+
+pub use exporter::Exporter;
+pub use moved::{CoreFault, Moved};
+pub use parts::{
+    BoxList, BoxPart, ConnList, ExporterParts, InletList, KeyList, LaneList, LanePart, ProcList,
+    ProcPart,
+};
