@@ -134,18 +134,22 @@ module _ (k m : Connection) (inlets : List CountedLane) (none : k.passed ≡ Non
 
   pub accepts_waits : ((plan : HostPlan) (link : List ℕ) → accept scheme (inlet_plan plan k) (plain_conn link None k) k.arrived ≡ ConnWaits) → m ≡ k → Accepted Still k m inlets inlets
   accepts_waits is same = λ here rows plan x link.
-      let w = asked here rows plan link ConnWaits (is plan link) in
-      (ap (met here rows link x inlets) same ∙ ap (λ (a : ConnAsk). perform_conn scheme (inlet_plan plan k) (record x { inlets = map plain_inlet inlets }) (conn_of here rows link k) a) (sym w),
-        (λ still. ap (met here rows link x inlets) same, λ alike. refl))
+      let w = asked here rows plan link ConnWaits (is plan link) in (
+        ap (met here rows link x inlets) same ∙ ap (λ (a : ConnAsk). perform_conn scheme (inlet_plan plan k) (record x { inlets = map plain_inlet inlets }) (conn_of here rows link k) a) (sym w),
+        (λ still. ap (met here rows link x inlets) same, λ alike. refl),
+      )
 
   pub accepts_itself : ((plan : HostPlan) (link : List ℕ) → accept scheme (inlet_plan plan k) (plain_conn link None k) k.arrived ≡ ConnInternal (plain_conn link None m)) → m.passed ≡ None → Accepted Changed k m inlets inlets
   accepts_itself is free = λ here rows plan x link.
       let a = asked here rows plan link (ConnInternal (plain_conn link None m)) (is plan link) in
-      let after = free_is here rows link m free in
-      (ap (λ (c : Conn). record { host = record x { inlets = map plain_inlet inlets }; conn = c }) (sym after)
-          ∙ ap (λ (q : ConnAsk). perform_conn scheme (inlet_plan plan k) (record x { inlets = map plain_inlet inlets }) (conn_of here rows link k) q) (sym a),
-        (λ still. absurd cc,
-          λ same. absurd (subst (Moving (conn_of here rows link k)) a (moving scheme (inlet_plan plan k) (conn_of here rows link k) k.arrived) (after ∙ ap conn_in same))))
+      let after = free_is here rows link m free in (
+        ap (λ (c : Conn). record { host = record x { inlets = map plain_inlet inlets }; conn = c }) (sym after)
+            ∙ ap (λ (q : ConnAsk). perform_conn scheme (inlet_plan plan k) (record x { inlets = map plain_inlet inlets }) (conn_of here rows link k) q) (sym a),
+        (
+          λ still. absurd cc,
+          λ same. absurd (subst (Moving (conn_of here rows link k)) a (moving scheme (inlet_plan plan k) (conn_of here rows link k) k.arrived) (after ∙ ap conn_in same)),
+        ),
+      )
 
   -- by the inlet's answer
   pub accepts_number : (place number stamp : ℕ) (who : Actor)
@@ -155,11 +159,14 @@ module _ (k m : Connection) (inlets : List CountedLane) (none : k.passed ≡ Non
   accepts_number place number stamp who is fresh_free stale_free = λ here rows plan x link.
       let a = asked here rows plan link (AsksInlet place number (plain_conn link None (settled true m)) (plain_conn link None (settled false m))) (is plan link) in
       let both = subst (Moving (conn_of here rows link k)) a (moving scheme (inlet_plan plan k) (conn_of here rows link k) k.arrived) in
-      let counts = map_over_at plain_inlet place (counted stamp who number) (numbered number) inlets (λ i h. refl) in
-      (go here rows link x counts (fresh_in number (slice_get (map plain_inlet inlets) place))
-          ∙ ap (λ (q : ConnAsk). perform_conn scheme (inlet_plan plan k) (record x { inlets = map plain_inlet inlets }) (conn_of here rows link k) q) (sym a),
-        (λ still. absurd cc,
-          λ same. absurd (by_answer here rows link (conn_of here rows link k) both (fresh_in number (slice_get (map plain_inlet inlets) place)) (ap conn_in same))))
+      let counts = map_over_at plain_inlet place (counted stamp who number) (numbered number) inlets (λ i h. refl) in (
+        go here rows link x counts (fresh_in number (slice_get (map plain_inlet inlets) place))
+            ∙ ap (λ (q : ConnAsk). perform_conn scheme (inlet_plan plan k) (record x { inlets = map plain_inlet inlets }) (conn_of here rows link k) q) (sym a),
+        (
+          λ still. absurd cc,
+          λ same. absurd (by_answer here rows link (conn_of here rows link k) both (fresh_in number (slice_get (map plain_inlet inlets) place)) (ap conn_in same)),
+        ),
+      )
     where
       after : (here : PubKey) (rows : List Category) (link : List ℕ) (b : Bool) → conn_of here rows link (settled b m) ≡ (if b then plain_conn link None (settled true m) else plain_conn link None (settled false m))
       after here rows link true = sym (free_is here rows link (settled true m) fresh_free)

@@ -128,8 +128,8 @@ module _ (e : HostState) (place stamp : ℕ) (moved : Moved) (k m : Connection) 
       let c = conn_stands e link place k stands in
       let bytes = arrived_stands e place k stands in
       let performed : perform_conn scheme (inlet_plan (site_of e) k) (host_of e) (conn_of e.desk.here e.desk.desk.rows link k) (accept scheme (inlet_plan (site_of e) k) (conn_of e.desk.here e.desk.desk.rows link k) k.arrived)
-          ≡ perform_conn scheme (site_of e) (host_of e) (conn_at link place e) (accept scheme (site_of e) (conn_at link place e) (arrived_at place e))
-          = λ i. perform_conn scheme (plan i) (host_of e) (sym c i) (accept scheme (plan i) (sym c i) (sym bytes i)) in
+      ≡ perform_conn scheme (site_of e) (host_of e) (conn_at link place e) (accept scheme (site_of e) (conn_at link place e) (arrived_at place e))
+      = λ i. perform_conn scheme (plan i) (host_of e) (sym c i) (accept scheme (plan i) (sym c i) (sym bytes i)) in
       let a = next.accepted e.desk.here e.desk.desk.rows (site_of e) (host_of e) link in (
         sym (after link) ∙ (a.0 ∙ performed),
         (λ still. sym (after link) ∙ (a.1.0 still ∙ before link), λ same. a.1.1 (after link ∙ (same ∙ sym (before link)))),

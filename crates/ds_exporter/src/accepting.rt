@@ -56,13 +56,7 @@ fn reserve_number(conn: &Conn, inlets: &mut InletList) -> Result<(), AllocError>
 
 /// A frame's number comes to the inlet at a place, which says whether it is fresh. It takes no memory.
 #[tactic(auto, using(crate::proofs::Places::map_at_here))]
-fn number_at(
-    inlets: &mut InletList,
-    place: usize,
-    stamp: u64,
-    who: Actor,
-    number: u32,
-) -> bool
+fn number_at(inlets: &mut InletList, place: usize, stamp: u64, who: Actor, number: u32) -> bool
     requires place { place < length inlets.old.items }
     requires room { HasRoomAt place inlets.old.items }
     requires later { All (IsInletBefore stamp) (map inlet_of inlets.old.items) }

@@ -19,8 +19,8 @@ returns-clause-ok c =
     let e = state_of c.self.inside.parts in
     let within = rw (← c.self.view_is) at c.requires.there in
     λ link. subst (λ (s : HostState). Moves c.in_ok-moved.moved (ends_of link c.args.conn s)
-        (ends_of link c.args.conn (record e { conns = map connection_of c.accept_at.new.conns.items; inlets = map inlet_of c.accept_at.new.inlets.items }))
-        (perform_conn scheme (site_of s) (host_of s) (conn_at link c.args.conn s) (accept scheme (site_of s) (conn_at link c.args.conn s) (arrived_at c.args.conn s)))) c.self.view_is
+    (ends_of link c.args.conn (record e { conns = map connection_of c.accept_at.new.conns.items; inlets = map inlet_of c.accept_at.new.inlets.items }))
+    (perform_conn scheme (site_of s) (host_of s) (conn_at link c.args.conn s) (accept scheme (site_of s) (conn_at link c.args.conn s) (arrived_at c.args.conn s)))) c.self.view_is
     (moves_all e c.args.conn c.args.stamp c.in_ok-moved.moved (map connection_of c.accept_at.new.conns.items) (map inlet_of c.accept_at.new.inlets.items) within (λ k h. c.in_ok-moved.ensures.ok k h) c.self.invariant link)
 
 pub returns-clause-others : goal.returns-clause-others

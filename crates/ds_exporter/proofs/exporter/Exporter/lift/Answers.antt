@@ -75,7 +75,7 @@ returns-clause-still c =
     let empty = rw (← c.self.view_is) at c.requires.empty in
     let within = rw (← c.self.view_is) at c.requires.place in
     λ still. rw (c.in_ok-lift_at.ensures.ok, ← c.self.view_is) (there_is (with_lane c.args.place (lifted_lane c.args.stamp) e ≡ e) e.lanes c.args.place within (λ l h.
-        still_lifted e c.args.place l h (empty l h) c.args.stamp ((c.in_ok-lift_at.ensures.held l h).0 c.if-branch.false)))
+    still_lifted e c.args.place l h (empty l h) c.args.stamp ((c.in_ok-lift_at.ensures.held l h).0 c.if-branch.false)))
 
 pub returns-clause-site : goal.returns-clause-site
 returns-clause-site c =
