@@ -243,10 +243,15 @@ fn append_piece(
     }
 }
 
-/// The bytes of pieces in order.
-pub(crate) fn pieces(alloc: Global, names: &Names, words: &[&[u8]]) -> Result<Vec<u8>, Stop> {
+/// The bytes of the pieces from a place on, in order.
+pub(crate) fn pieces(
+    alloc: Global,
+    names: &Names,
+    words: &[&[u8]],
+    from: usize,
+) -> Result<Vec<u8>, Stop> {
     let mut all = Vec::new(alloc);
-    for word in words {
+    for word in words.get(from..).unwrap_or(&[]) {
         let mut bytes = Vec::new(alloc);
         append_piece(alloc, names, &split(alloc, word, b':')?, &mut bytes)?;
         append(&mut all, &bytes)?;
@@ -256,7 +261,7 @@ pub(crate) fn pieces(alloc: Global, names: &Names, words: &[&[u8]]) -> Result<Ve
 
 /// Gives bytes that are put together a name.
 fn lets(row: &mut Row<'_>, names: &mut Names) {
-    let bytes = pieces(row.alloc, names, row.rest(3));
+    let bytes = pieces(row.alloc, names, &row.words, 3);
     if let Some(bytes) = row.got(bytes) {
         row.say_number(bytes.len() as u64);
         row.say("bytes");
@@ -286,7 +291,7 @@ pub(crate) fn row(row: &mut Row<'_>, names: &mut Names) {
         tree(row, names);
         return;
     }
-    let bytes = pieces(row.alloc, names, row.rest(1));
+    let bytes = pieces(row.alloc, names, &row.words, 1);
     if let Some(bytes) = row.got(bytes) {
         row.say_hex(&bytes);
     }

@@ -14,7 +14,7 @@ use std::alloc::Global;
 #[derive(Drop)]
 pub(crate) struct Row<'a> {
     pub(crate) alloc: Global,
-    words: Vec<&'a [u8]>,
+    pub(crate) words: Vec<&'a [u8]>,
     said: String,
     stop: Option<Stop>,
 }
@@ -71,11 +71,6 @@ impl<'a> Row<'a> {
     /// The word at a place, empty where there is none.
     pub(crate) fn word(&self, place: usize) -> &'a [u8] {
         at(&self.words, place)
-    }
-
-    /// The words from a place on.
-    pub(crate) fn rest(&self, place: usize) -> &[&'a [u8]] {
-        self.words.get(place..).unwrap_or(&[])
     }
 
     /// Whether the word at a place is this text.
@@ -137,7 +132,7 @@ impl<'a> Row<'a> {
 
     /// The bytes of the piece at a place.
     pub(crate) fn bytes(&mut self, names: &Names, place: usize) -> Vec<u8> {
-        match pieces(self.alloc, names, &[self.word(place)]) {
+        match pieces(self.alloc, names, &[self.word(place)], 0) {
             Ok(bytes) => bytes,
             Err(stop) => {
                 self.stop = Some(stop);

@@ -94,7 +94,7 @@ pub(crate) fn store(row: &mut Row<'_>, names: &Names, place: usize) -> CertList 
         return list;
     }
     for name in &row.parts(place, b',') {
-        let bytes = pieces(row.alloc, names, &[*name]);
+        let bytes = pieces(row.alloc, names, &[*name], 0);
         if let Some(bytes) = row.got(bytes) {
             let added = add_spelled(row.alloc, &mut list, &bytes);
             let _ = row.got(added);
@@ -119,7 +119,7 @@ fn add_address(
 pub(crate) fn addresses(row: &mut Row<'_>, names: &Names, place: usize) -> AddressList {
     let mut list = AddressList::new(row.alloc);
     for name in &row.parts(place, b',') {
-        let bytes = pieces(row.alloc, names, &[*name]);
+        let bytes = pieces(row.alloc, names, &[*name], 0);
         if let Some(bytes) = row.got(bytes) {
             let added = add_address(row.alloc, &mut list, &bytes);
             let _ = row.got(added);

@@ -7,10 +7,10 @@ use ds_base::MemKeeper;
 use ds_commands::{Command, CommandFault, Reply, answer, command_of};
 use std::alloc::{AllocError, Global};
 
-/// The words as texts; one that is no text is left out.
-fn texts(alloc: Global, words: &[&[u8]]) -> Result<Vec<String>, AllocError> {
+/// The words from a place on as texts; one that is no text is left out.
+fn texts(alloc: Global, words: &[&[u8]], from: usize) -> Result<Vec<String>, AllocError> {
     let mut all = Vec::new(alloc);
-    for word in words {
+    for word in words.get(from..).unwrap_or(&[]) {
         if let Ok(text) = str::from_utf8(word) {
             all.push(String::from_str(alloc, text)?)?;
         }
@@ -63,7 +63,7 @@ fn answers(
 
 /// The command of the words from a place on.
 fn command(row: &mut Row<'_>, place: usize) -> Option<Command> {
-    match texts(row.alloc, row.rest(place)) {
+    match texts(row.alloc, &row.words, place) {
         Ok(words) => command_of(&words),
         Err(_) => {
             row.full();

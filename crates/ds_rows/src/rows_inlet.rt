@@ -170,7 +170,7 @@ fn say_conn(row: &mut Row<'_>, entries: &[ConnEntry]) {
 
 /// Bytes arrive.
 fn arrives(row: &mut Row<'_>, names: &Names, conn: &mut Conn, word: &[u8]) {
-    let bytes = pieces(row.alloc, names, &[word]);
+    let bytes = pieces(row.alloc, names, &[word], 0);
     if let Some(bytes) = row.got(bytes) {
         if conn.arrive(&bytes).is_err() {
             row.full();

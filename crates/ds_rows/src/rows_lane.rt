@@ -3,6 +3,7 @@
 ghost use Rattle.std.specs.Prelude.{◌≡◌, IfOk};
 ghost use Rattle.ds_cert.specs.Ranges.{LaneCertRange};
 ghost use Rattle.ds_lane.specs.Lanes.{IsOn};
+ghost use Rattle.ds_lane.specs.Workers.{IsKeyOf};
 
 use crate::names::made_tree;
 use crate::row::Row;
@@ -30,16 +31,17 @@ const WORKER: Actor = Actor {
     index: 1,
 };
 
-/// A certificate of a lane that anyone may read.
-fn cert(alloc: Global) -> LaneCert
-    ensures { LaneCertRange result }
+/// A certificate of a lane that anyone may read, for a signer's key.
+fn cert(alloc: Global, signer: &Signer) -> LaneCert
+    ensures range { LaneCertRange result }
+    ensures key { IsKeyOf signer.now result }
 {
     LaneCert {
         exporter: PubKey([1; 56]),
         lane: 1,
         receiver: PubKey([2; 56]),
         label: Label::new(alloc),
-        key: PubKey([3; 56]),
+        key: PubKey(signer.public()),
         from: 0,
         until: 100,
         signature: Bytes::new(alloc),
@@ -255,7 +257,7 @@ pub(crate) fn row(row: &mut Row<'_>) {
     let Some(signer) = signer(row, &mut keeper) else {
         return row.bad();
     };
-    let cert = cert(row.alloc);
+    let cert = cert(row.alloc, &signer);
     let Ok(mut end) = LaneEnd::new(row.alloc, WORKER, &cert, signer) else {
         return row.full();
     };

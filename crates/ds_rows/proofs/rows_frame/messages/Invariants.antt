@@ -3,4 +3,4 @@ use Rattle.std.specs.List.{All}
 use Rattle.ds_rows.proofs.rows_frame.messages.Given as goal
 
 abbrev pub invariant-loop : goal.invariant-loop
-invariant-loop g l = (length l.bodies ≡ l.counter) × All (λ body. length body ≤ 72229) l.bodies
+invariant-loop l = (length l.bodies ≡ l.counter) × All (λ body. length body ≤ 72229) l.bodies
