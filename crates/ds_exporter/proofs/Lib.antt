@@ -18,3 +18,6 @@ pub mod BoxPuts
 pub mod DeliverAsks
 pub mod DeliverPuts
 pub mod DeliverJudges
+pub mod OneStep
+pub mod PutSteps
+pub mod TakeSteps

@@ -11,3 +11,6 @@ pub mod Queueing
 pub mod Accepting
 pub mod Mailboxes
 pub mod Delivering
+pub mod Stepping
+pub mod Sites
+pub mod Taking

@@ -12,10 +12,15 @@ mod framing;
 mod judging;
 mod lifting;
 mod moved;
+mod noting;
 mod parts;
 mod posting;
+mod putting;
 mod queueing;
+mod refusing;
 mod running;
+mod site;
+mod taking;
 mod ticking;
 
 pub use exporter::Exporter;
