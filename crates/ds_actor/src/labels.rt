@@ -15,6 +15,7 @@ ghost use Rattle.ds_map.specs.Labels.{have_names};
 ghost use Rattle.ds_actor.specs.Usable.{IsAgreed};
 ghost use Rattle.ds_actor.specs.Seen.{UnderTables, process_of, proc_labels};
 ghost use Rattle.ds_actor.specs.Asks.{IsAsked, IsInside, StaysUnless};
+ghost use Rattle.ds_actor.specs.Asking.{MovesInside};
 
 use crate::ask::ProcessAsk;
 use crate::names::numbers_of;
@@ -36,6 +37,8 @@ pub(crate) fn set_label(
     requires going { process.old.process.course.place < length process.old.process.script }
     ensures inside { IfOk result IsInside }
     ensures still { IfOk result (λ a. StaysUnless a process.old process.new) }
+    ensures moved { IfOk result (λ a. MovesInside a process.old.process process.new.process) }
+    ensures script { process.new.process.script ≡ process.old.process.script }
     ensures err { OnErr result (process.new.process ≡ process.old.process) }
     ensures names { UnderTables here.now [] process.old.process (λ rows. IsAgreed here.now rows process.new.process.names) }
     ensures labels { UnderTables here.now [] process.old.process (λ rows. IsTrue (have_names here.now rows (proc_labels process.new.process))) }
@@ -74,6 +77,8 @@ pub(crate) fn new_category(
     requires new { let c = next_category here.now index process.old.process.made kind in IsNewNumber c (home_number c) process.old.process.names }
     ensures inside { IfOk result IsInside }
     ensures still { IfOk result (λ a. StaysUnless a process.old process.new) }
+    ensures moved { IfOk result (λ a. MovesInside a process.old.process process.new.process) }
+    ensures script { process.new.process.script ≡ process.old.process.script }
     ensures err { OnErr result (process.new.process ≡ process.old.process) }
     ensures names { UnderTables here.now [] process.old.process (λ rows. IsAgreed here.now rows process.new.process.names) }
     ensures labels { UnderTables here.now [] process.old.process (λ rows. IsTrue (have_names here.now rows (proc_labels process.new.process))) }
