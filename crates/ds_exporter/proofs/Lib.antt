@@ -21,3 +21,4 @@ pub mod DeliverJudges
 pub mod OneStep
 pub mod PutSteps
 pub mod TakeSteps
+pub mod Stays

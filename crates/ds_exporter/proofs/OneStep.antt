@@ -31,6 +31,12 @@ host_by e p f h is = ap (λ (procs : List Process). record (host_of e) { procs =
 pub site_proc : (e : HostState) (p : ℕ) (f : HostProcess → HostProcess) → site_of (with_proc p f e) ≡ site_of e
 site_proc e p f = ap (λ (n : ℕ). record (site_of e) { procs = n }) (length_at p f e.procs)
 
+-- processes have no stamps
+pub below_proc : (n : ℕ) (e : HostState) (procs : List HostProcess) → IsBefore n e → IsUpTo n (record e { procs = procs })
+below_proc n e procs b =
+    let more = below_more n e b in
+    record { desk = more.desk; boxes = more.boxes; lanes = more.lanes; inlets = more.inlets }
+
 abbrev place_or : Option Process → ℕ
 place_or None = 0
 place_or (Some y) = y.course.place
@@ -41,7 +47,6 @@ not_same n m p q = omega (arith, p, q)
 -- one that moved on is another one by names
 pub moved_on : (e new : HostState) (p : ℕ) (x y : HostProcess) → slice_get e.procs p ≡ Some x → slice_get new.procs p ≡ Some y
     → y.process.course.place ≡ x.process.course.place + 1 → host_of new ≡ host_of e → ⊥
-unfolding place_or
 moved_on e new p x y was is next same =
     let before : slice_get (host_of e).procs p ≡ Some (plain_process e.desk.here e.desk.desk.rows x)
     = slice_get-map (plain_process e.desk.here e.desk.desk.rows) e.procs p ∙ ap (option_map (plain_process e.desk.here e.desk.desk.rows)) was in
@@ -100,5 +105,5 @@ module _ (e : HostState) (p : ℕ) (rule : Rule) (within : p < length e.procs) (
     site = site_proc e p (refused_proc rule);
     conns = refl;
     named = λ link place. refl;
-    stamps = below_more stamp e below;
+    stamps = below_proc stamp e (at p (refused_proc rule) e.procs) below;
   })

@@ -11,6 +11,7 @@ use ds_desk::DeskState;
 use ds_label::{Label, LocalLabel, PubKey};
 
 /// The parts of a host by which its processes ask.
+#[derive(Drop)]
 pub(crate) struct HostSite<'e> {
     /// The host's public state, of which its key is seen.
     pub(crate) desk: &'e DeskState,
