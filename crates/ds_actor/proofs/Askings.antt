@@ -1,6 +1,6 @@
 -- All that is known of an ask, from what each operation's own function says.
-use Rattle.std.proofs.Common.{◌≡◌, ℕ, zero, suc, ◌+◌, ◌<◌, ◌≤◌, true, List, [], ◌∷◌, Option, Some, None, refl, sym, ap, ◌∙◌, subst, slice_get, arith}
-use Rattle.std.specs.Prelude.{All, IfOk, IsTrue, Result, Ok, Err, length, slice_index_or}
+use Rattle.std.proofs.Common.{◌≡◌, ℕ, zero, suc, ◌<◌, ◌≤◌, List, [], ◌∷◌, Option, Some, refl, sym, subst, slice_get, arith}
+use Rattle.std.specs.Prelude.{All, IfOk, IsTrue, Result, Ok, Err, length}
 use Rattle.ds_label.specs.declared.category.PubKey.{PubKey}
 use Rattle.ds_label.specs.declared.category.Category.{Category}
 use Rattle.ds_label.specs.declared.category.Kind.{Kind}
@@ -19,7 +19,7 @@ use Rattle.ds_model.specs.FirstRule.{first_rule, unless}
 use Rattle.ds_model.specs.Mapping.{is_known, next_category}
 use Rattle.ds_model.specs.ExporterRules.{known_rule}
 use Rattle.ds_model.specs.ProcessRules.{may_make, may_relabel}
-use Rattle.ds_model.specs.ProcessStep.{Ask, Waits, ask_outer, make, publish, publish_rule, relabel}
+use Rattle.ds_model.specs.ProcessStep.{Ask, ask_outer, make, publish, publish_rule, relabel}
 use Rattle.ds_map.specs.Labels.{have_names}
 use Rattle.ds_actor.specs.declared.ask.ProcessAsk.{ProcessAsk}
 use Rattle.ds_actor.specs.declared.ask.ProcessAsk.TheVariants as asks
@@ -113,7 +113,7 @@ module _ (site : SitePlan) (index : ℕ) (op : Option Op) (p : ProcView) where
   pub outside_ok : {E : Type 0} (r : Result ProcessAsk E) → CanEnd p → IfOk r IsOutside → IfOk r IsCopied → IfOk r (IsAskInRange site)
       → UnderTables site.here [] p.process (λ rows. IfOk r (HasMailNames site.here rows))
       → UnderTables site.here site.boxes p.process (λ rows. (plan : HostPlan) (hand : Option Message) (y : Process) →
-          IfOk r (λ a. IsAsked site.here rows (process_of site.here rows hand p.process) y a (ask_outer (with_site site rows plan) index (process_of site.here rows hand p.process) op)))
+      IfOk r (λ a. IsAsked site.here rows (process_of site.here rows hand p.process) y a (ask_outer (with_site site rows plan) index (process_of site.here rows hand p.process) op)))
       → IfOk r (IsAnswer site index op p p)
   outside_ok (Ok a) can outside copied range mail asked = outside_is a can outside copied range mail asked
   outside_ok (Err e) can outside copied range mail asked = tt
@@ -139,7 +139,7 @@ module _ (site : SitePlan) (index : ℕ) (op : Option Op) (p : ProcView) where
 
   pub silent_ok : {E : Type 0} (r : Result ProcessAsk E) → CanEnd p → IfOk r SendsNothing → IfOk r (IsAskInRange site)
       → UnderTables site.here site.boxes p.process (λ rows. (plan : HostPlan) (hand : Option Message) (y : Process) →
-          IfOk r (λ a. IsAsked site.here rows (process_of site.here rows hand p.process) y a (ask_outer (with_site site rows plan) index (process_of site.here rows hand p.process) op)))
+      IfOk r (λ a. IsAsked site.here rows (process_of site.here rows hand p.process) y a (ask_outer (with_site site rows plan) index (process_of site.here rows hand p.process) op)))
       → IfOk r (IsAnswer site index op p p)
   silent_ok (Ok a) can sends range asked = silent_is a can sends range asked
   silent_ok (Err e) can sends range asked = tt
@@ -206,8 +206,8 @@ module _ (site : SitePlan) (index : ℕ) (op : Option Op) (old new : ProcView) w
       → UnderTables site.here [] old.process (λ rows. IsAgreed site.here rows new.process.names)
       → UnderTables site.here [] old.process (λ rows. IsTrue (have_names site.here rows (proc_labels new.process)))
       → UnderTables site.here [] old.process (λ rows. (plan : HostPlan) (hand : Option Message) →
-          IfOk r (λ a. IsAsked site.here rows (process_of site.here rows hand old.process) (process_of site.here rows hand new.process) a
-          (ask_outer (with_site site rows plan) index (process_of site.here rows hand old.process) op)))
+      IfOk r (λ a. IsAsked site.here rows (process_of site.here rows hand old.process) (process_of site.here rows hand new.process) a
+      (ask_outer (with_site site rows plan) index (process_of site.here rows hand old.process) op)))
       → IfOk r (IsAnswer site index op old new)
   inside_ok (Ok a) can inside still moved names labels asked = inside_is a can inside still moved names labels asked
   inside_ok (Err e) can inside still moved names labels asked = tt

@@ -1,10 +1,8 @@
 //! A change of a process's label, and a category that it makes.
 
-ghost use Rattle.std.specs.Prelude.{◌≡◌, ◌<◌, ◌^◌, ◌∷◌, [], List, Option, IfOk, OnErr, IsTrue, length};
-ghost use Rattle.ds_label.specs.declared.category.Category.{Category};
+ghost use Rattle.std.specs.Prelude.{◌≡◌, ◌<◌, ◌^◌, ◌∷◌, [], Option, IfOk, OnErr, IsTrue, length};
 ghost use Rattle.ds_label.specs.Names.{by_name};
 ghost use Rattle.ds_msg.specs.declared.message.Message.{Message};
-ghost use Rattle.ds_model.specs.World.{Process};
 ghost use Rattle.ds_model.specs.FirstRule.{first_rule};
 ghost use Rattle.ds_model.specs.Mapping.{next_category};
 ghost use Rattle.ds_model.specs.ExporterRules.{known_rule};

@@ -1,6 +1,6 @@
 //! Acts in public: a delegation, an import, and the mapping of a category.
 
-ghost use Rattle.std.specs.Prelude.{◌≡◌, ◌<◌, ◌^◌, ◌∷◌, [], List, Option, IfOk};
+ghost use Rattle.std.specs.Prelude.{◌≡◌, ◌<◌, ◌^◌, ◌∷◌, [], Option, IfOk};
 ghost use Rattle.ds_label.specs.declared.category.Category.{Category};
 ghost use Rattle.ds_label.specs.declared.category.PubKey.{PubKey as Key};
 ghost use Rattle.ds_label.specs.declared.rule.Rule.TheVariants as rules;
@@ -15,7 +15,6 @@ ghost use Rattle.ds_model.specs.Mapping.{is_known};
 ghost use Rattle.ds_model.specs.Desk.{Delegating, Importing, Mapping};
 ghost use Rattle.ds_model.specs.ProcessStep.{publish, publish_rule};
 ghost use Rattle.ds_actor.specs.Sites.{SitePlan};
-ghost use Rattle.ds_actor.specs.Usable.{categories};
 ghost use Rattle.ds_actor.specs.Seen.{UnderTables, process_of};
 ghost use Rattle.ds_actor.specs.Asks.{IsAsked, IsAskInRange};
 ghost use Rattle.ds_actor.specs.Asking.{SendsNothing};

@@ -1,7 +1,6 @@
 //! A take from a mailbox of the own host.
 
-ghost use Rattle.std.specs.Prelude.{◌≡◌, ◌<◌, ◌∷◌, ◌==◌, [], List, Option};
-ghost use Rattle.ds_label.specs.declared.category.Category.{Category};
+ghost use Rattle.std.specs.Prelude.{◌≡◌, ◌<◌, ◌∷◌, ◌==◌, [], Option};
 ghost use Rattle.ds_label.specs.declared.rule.Rule.TheVariants as rules;
 ghost use Rattle.ds_label.specs.Numbers.{by_number};
 ghost use Rattle.ds_msg.specs.declared.message.Message.{Message};

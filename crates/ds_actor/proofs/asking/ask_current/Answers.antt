@@ -1,4 +1,4 @@
-use Rattle.std.proofs.Common.{Some, sym, ap, subst, ◌∙◌, slice_get}
+use Rattle.std.proofs.Common.{Some, sym, ap, subst, ◌∙◌}
 use Rattle.std.specs.Prelude.{IfOk, length}
 use Rattle.ds_script.specs.declared.op.Op.TheVariants as ops
 use Rattle.ds_actor.specs.Sites.{labels_of}
