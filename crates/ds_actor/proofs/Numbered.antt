@@ -1,6 +1,6 @@
 -- Usable names that have the numbers of a table.
-use Rattle.std.proofs.Common.{◌≡◌, ℕ, zero, suc, ◌<◌, List, [], ◌∷◌, Some, refl, sym, ap, ◌∙◌, arith}
-use Rattle.std.specs.Prelude.{All, ◌^◌, ◌+◌, ◌*◌, length}
+use Rattle.std.proofs.Common.{◌≡◌, ℕ, zero, suc, ◌<◌, List, [], ◌∷◌, Some, sym, ap, ◌∙◌, arith}
+use Rattle.std.specs.Prelude.{All, ◌^◌}
 use Rattle.ds_label.specs.declared.category.PubKey.{PubKey}
 use Rattle.ds_label.specs.declared.category.Category.{Category}
 use Rattle.ds_label.specs.declared.category.Kind.{Kind}
@@ -32,10 +32,10 @@ one_category here rows c d n e f =
     sym (name_of-number_of here rows c one.0) ∙ (ap (name_of here rows) (one.1 ∙ sym other.1) ∙ name_of-number_of here rows d other.0)
 
 pub new_number : (c : Category) (n : ℕ) (us : List Usable) → IsNumbered c n us → IsNewNumber c n us
-new_number c n us (here, (rows, (agreed, is))) = λ k d w e. one_category here rows _ c n (agreed_each here rows us agreed k d w ∙ ap Some e) is
+new_number c n us (here, rows, agreed, is) = λ k d w e. one_category here rows _ c n (agreed_each here rows us agreed k d w ∙ ap Some e) is
 
 pub new_home : (here : PubKey) (us : List Usable) (index made : ℕ) (kind : Kind) → index < 2 ^ 30 → made < 2 ^ 32 → HasTable here us
     → IsNewNumber (next_category here index made kind) (home_number (next_category here index made kind)) us
 new_home here us index made kind few less (rows, agreed) =
     let c = next_category here index made kind in
-    new_number c (home_number c) us (here, (rows, (agreed, home_known here rows c (next_home here index made kind few less))))
+    new_number c (home_number c) us (here, rows, agreed, home_known here rows c (next_home here index made kind few less))

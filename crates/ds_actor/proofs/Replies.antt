@@ -1,5 +1,5 @@
 -- What a process becomes by an answer: by numbers and by names.
-use Rattle.std.proofs.Common.{◌≡◌, ℕ, Bool, true, false, cond, ◌&&◌, List, [], ◌∷◌, Option, Some, None, refl, sym, ap, ◌∙◌}
+use Rattle.std.proofs.Common.{◌≡◌, ℕ, Bool, true, false, cond, ◌&&◌, List, [], ◌∷◌, Option, Some, None, refl, sym, ◌∙◌}
 use Rattle.std.specs.Prelude.{length}
 use Rattle.std.specs.List.{list_all}
 use Rattle.ds_label.specs.declared.category.PubKey.{PubKey}
@@ -13,9 +13,11 @@ use Rattle.ds_script.specs.declared.note.Note.TheVariants as notes
 use Rattle.ds_script.specs.Process.{Process as Numbered, finished_process, granted_process}
 use Rattle.ds_msg.specs.declared.message.Message.{Message}
 use Rattle.ds_msg.specs.declared.local.LocalMessage.{LocalMessage}
+use Rattle.ds_script.specs.Inner.{finished}
 use Rattle.ds_model.specs.World.{Process}
+use Rattle.ds_model.specs.Desk.{Mapping, Local}
 use Rattle.ds_model.specs.ProcessRules.{can_grant}
-use Rattle.ds_model.specs.ProcessStep.{noted_with, taken_after_reply}
+use Rattle.ds_model.specs.ProcessStep.{act_after_reply, noted_with, taken_after_reply}
 use Rattle.ds_map.specs.Table.{IsTable}
 use Rattle.ds_map.specs.Labels.{named, have_names, has_name}
 use Rattle.ds_map.proofs.Numbers.{same_rules, labels_one_to_one}
@@ -23,6 +25,7 @@ use Rattle.ds_map.proofs.Sets.{list_all-alike, and_first, and_second}
 use Rattle.ds_actor.specs.Seen.{process_of, mail_of, proc_labels, mail_labels}
 use Rattle.ds_actor.specs.Replying.{granted_if, took_process}
 use Rattle.ds_actor.proofs.Sites.{first_named, second_named, third_named}
+use Rattle.ds_actor.proofs.Changes.{names_more}
 
 -- ---- what names have
 
@@ -102,3 +105,9 @@ module _ (here : PubKey) (rows : List Category) (p : Numbered) (m : LocalMessage
     pub taken_by : (reg slot : ℕ) → process_of here rows hand (took_process reg slot m p) ≡ taken_after_reply reg slot (Some (mail_of here rows m)) x
     taken_by reg slot = taken_if reg slot (can_grant by_number p.own p.clear m.own m.clear)
         ∙ (λ i. noted_with (notes.Took slot (length m.payload) (sym same_grant i)) reg m.payload (granted_names (sym same_grant i)))
+
+-- ---- a mapping
+
+pub mapped_by : (here : PubKey) (rows : List Category) (hand : Option Message) (p : Numbered) (reg host : ℕ) (c : Category) (n : ℕ)
+    → process_of here rows hand (finished_process (Some (notes.Mapped c n)) None p) ≡ act_after_reply reg host (Mapping c) (Local n) (process_of here rows hand p)
+mapped_by here rows hand p reg host c n = λ i. record (process_of here rows hand p) { course = finished (Some (notes.Mapped c n)) None p.course; names = names_more c n p.names i }

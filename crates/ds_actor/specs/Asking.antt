@@ -1,5 +1,5 @@
 -- What is known of an ask, besides that it is the model's.
-use Rattle.std.specs.Prelude.{◌≡◌, ℕ, ◌+◌, ◌<◌, [], List, length, Option, IsTrue}
+use Rattle.std.specs.Prelude.{◌≡◌, ℕ, ◌+◌, ◌<◌, [], List, length, Option, Some, IsTrue}
 use Rattle.ds_label.specs.declared.category.PubKey.{PubKey}
 use Rattle.ds_label.specs.declared.category.Category.{Category}
 use Rattle.ds_script.specs.declared.op.Op.{Op}
@@ -52,6 +52,13 @@ abbrev pub IsOutside : ProcessAsk → Type 0
 IsOutside (asks.Admit place message kept) = ⊥
 IsOutside asks.Internal = ⊥
 IsOutside _ = Unit {0}
+
+-- it is refused, or takes, or acts in public: no message leaves the process
+abbrev pub SendsNothing : ProcessAsk → Type 0
+SendsNothing (asks.Refused rule) = Unit {0}
+SendsNothing (asks.TakeFrom place reg slot) = Unit {0}
+SendsNothing (asks.PublicAct request reg host) = Unit {0}
+SendsNothing _ = ⊥
 
 -- a judged message in hand asks for its lane, or for nothing
 abbrev pub IsOfHand : ProcessAsk → Type 0

@@ -9,7 +9,7 @@ ghost use Rattle.ds_actor.specs.Usable.{IsAgreed};
 ghost use Rattle.ds_actor.specs.Sites.{with_site};
 ghost use Rattle.ds_actor.specs.Seen.{UnderTables, proc_labels, process_of};
 ghost use Rattle.ds_actor.specs.Asks.{HasMailNames, IsAmongHosts, IsAskInRange, IsAsked, IsCopied, StaysUnless};
-ghost use Rattle.ds_actor.specs.Asking.{CanEnd, HasTable, IsAnswer, IsOfOperation, IsReady, MovesInside};
+ghost use Rattle.ds_actor.specs.Asking.{HasTable, IsAnswer, IsOfOperation, IsReady, MovesInside};
 
 use crate::ask::ProcessAsk;
 use crate::labels::{new_category, set_label};
@@ -75,11 +75,8 @@ fn ask_current<S: Site>(
         )),
         Op::Map { category } => Ok(ask_map(process, category)),
         Op::Import { reg } => ask_import(process, *reg),
-        Op::Set { .. }
-        | Op::Join { .. }
-        | Op::IfEq { .. }
-        | Op::Jump { .. }
-        | Op::Print { .. } => Ok(ProcessAsk::Waits),
+        Op::Set { .. } | Op::Join { .. } | Op::IfEq { .. } | Op::Jump { .. } | Op::Print { .. } =>
+            Ok(ProcessAsk::Waits),
     }
 }
 

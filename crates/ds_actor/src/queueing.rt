@@ -1,6 +1,6 @@
 //! A judged message in a process's hand.
 
-ghost use Rattle.std.specs.Prelude.{◌≡◌, List, IfOk};
+ghost use Rattle.std.specs.Prelude.{List, IfOk};
 ghost use Rattle.ds_label.specs.declared.category.Category.{Category};
 ghost use Rattle.ds_label.specs.declared.category.PubKey.{PubKey};
 ghost use Rattle.ds_model.specs.World.{Process};

@@ -1,6 +1,6 @@
 //! A send, to the own host or to another.
 
-ghost use Rattle.std.specs.Prelude.{◌≡◌, ◌<◌, ◌∷◌, ◌==◌, [], ℕ, List, length, Option, Some, None, IsTrue, IfOk, IfSome, option_copied, position};
+ghost use Rattle.std.specs.Prelude.{◌≡◌, ◌<◌, ◌∷◌, ◌==◌, [], ℕ, List, length, Option, Some, None, IsTrue, IfOk, IfSome, option_copied};
 ghost use Rattle.ds_label.specs.declared.category.Category.{Category};
 ghost use Rattle.ds_label.specs.declared.rule.Rule.TheVariants as rules;
 ghost use Rattle.ds_script.specs.Inner.{register};
