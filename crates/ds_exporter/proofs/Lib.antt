@@ -18,3 +18,4 @@ pub mod BoxPuts
 pub mod DeliverAsks
 pub mod DeliverPuts
 pub mod DeliverJudges
+pub mod DeliverVerdicts

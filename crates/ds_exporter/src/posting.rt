@@ -82,7 +82,7 @@ fn post(
 /// changed then.
 fn put_next(conn: &mut Conn, boxes: &mut BoxList, stamp: u64) -> Result<(), AllocError>
     requires some { is_some conn.old.conn.passed ≡ true }
-    requires box { HasBox (map box_of boxes.old.items) conn.old.conn.passed }
+    requires mailbox { HasBox (map box_of boxes.old.items) conn.old.conn.passed }
     requires later { All (IsBoxBefore stamp) (map box_of boxes.old.items) }
     ensures ok { OnOk result (IsPut stamp conn.old.conn conn.new.conn (map box_of boxes.old.items) (map box_of boxes.new.items)) }
     ensures conn { OnErr result (conn.new.conn ≡ conn.old.conn) }
