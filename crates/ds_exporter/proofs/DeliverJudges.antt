@@ -136,30 +136,36 @@ module _ (e : HostState) (place stamp : ℕ) (who : Actor) (k m : Connection) (s
         (sym (hand_left is.judged.lane is.judged.front is.judged.rest (judge_delivery scheme (site_of e) e.desk.desk is.judged.lane is.judged.front) c)
         ∙ (ap (λ (x : Conn). x.hand) (sym conn_after ∙ (ap (λ (x : HostAndConn). x.conn) q ∙ conn_stands e link place k stands)) ∙ is.judged.hand))
 
--- of the connection at a place, as the code's call says
-module _ (e : HostState) (place stamp : ℕ) (who : Actor) (conns : List Connection) (within : place < length e.conns)
-    (free : (k : Connection) → slice_get e.conns place ≡ Some k → k.passed ≡ None) (fit : IsFit e) (judged : IsJudgedAt e.desk e.boxes place e.conns conns) where
+-- of the connection at a place, as the code's calls say: the desk was made ready, the connection's message judged, and the desk read
+module _ (e : HostState) (place stamp : ℕ) (who : Actor) (ready desk : DeskView) (conns : List Connection) (within : place < length e.conns)
+    (free : (k : Connection) → slice_get e.conns place ≡ Some k → (k.passed ≡ None) × (0 < length k.hand)) (fit : IsFit e)
+    (reserved : ready ≡ e.desk) (looked : desk ≡ entered stamp who Looked ready) (judged : IsJudgedAt ready e.boxes place e.conns conns) where
   abbrev after_judged : HostState
-  after_judged = record e { desk = entered stamp who Looked e.desk; conns = conns }
+  after_judged = record e { desk = desk; conns = conns }
 
-  by_one : (P : HostState → Type 0) → ((k m : Connection) (h : slice_get e.conns place ≡ Some k) (is : IsJudged e.desk e.boxes k m) → P (with_judged e place stamp who k m h (free k h) fit is)) → P after_judged
+  looks : desk ≡ entered stamp who Looked e.desk
+  looks = looked ∙ ap (entered stamp who Looked) reserved
+
+  by_one : (P : HostState → Type 0) → ((k m : Connection) (h : slice_get e.conns place ≡ Some k) (is : IsJudged e.desk e.boxes k m) → P (with_judged e place stamp who k m h (free k h).0 fit is)) → P after_judged
   by_one P f = there_is (P after_judged) e.conns place within
       (λ k h.
-        let q = judged k h in
-        subst P (sym (ap (λ (cs : List Connection). record e { desk = entered stamp who Looked e.desk; conns = cs }) q.1 ∙ same e place stamp who k q.0 h (free k h) fit q.2)) (f k q.0 h q.2))
+        let q = subst (λ (d : DeskView). IsJudgedAt d e.boxes place e.conns conns) reserved judged k h in
+        subst P (sym ((λ i. record e { desk = looks i; conns = q.1 i }) ∙ same e place stamp who k q.0 h (free k h).0 fit q.2)) (f k q.0 h q.2))
 
-  pub fits_judged_all : IsReplay (entered stamp who Looked e.desk) → IsFit after_judged
-  fits_judged_all replay = by_one IsFit (λ k m h is. fits e place stamp who k m h (free k h) fit is replay)
+  pub fits_judged_all : IsReplay desk → IsFit after_judged
+  fits_judged_all replay = by_one IsFit (λ k m h is. fits e place stamp who k m h (free k h).0 fit is (subst IsReplay looks replay))
 
-  pub below_judged_all : IsBefore stamp e → last_of_desk (entered stamp who Looked e.desk) ≤ stamp → IsUpTo stamp after_judged
-  below_judged_all b last = by_one (IsUpTo stamp) (λ k m h is. below e place stamp who k m h (free k h) fit is b last)
+  pub site_judged_all : site_of after_judged ≡ site_of e
+  site_judged_all = ap (λ (d : DeskView). site_of (record e { desk = d; conns = conns })) looks
+
+  pub below_judged_all : IsBefore stamp e → last_of_desk desk ≤ stamp → IsUpTo stamp after_judged
+  below_judged_all b last = by_one (IsUpTo stamp) (λ k m h is. below e place stamp who k m h (free k h).0 fit is b (subst (λ (d : DeskView). last_of_desk d ≤ stamp) looks last))
 
   pub others_judged_all : (other : ℕ) → other ≢ place → slice_get conns other ≡ slice_get e.conns other
   others_judged_all other apart = by_one (λ (x : HostState). slice_get x.conns other ≡ slice_get e.conns other) (λ k m h is. at_other place other (λ _. after_verdict is.verdict k) e.conns apart)
 
   pub ends_judged_all : (link : List ℕ) → ends_of link place after_judged ≡ delivered e place link
-  ends_judged_all link = by_one (λ (x : HostState). ends_of link place x ≡ delivered e place link) (λ k m h is. ends e place stamp who k m h (free k h) fit is link)
+  ends_judged_all link = by_one (λ (x : HostState). ends_of link place x ≡ delivered e place link) (λ k m h is. ends e place stamp who k m h (free k h).0 fit is link)
 
   pub changed_judged_all : (link : List ℕ) → ends_of link place after_judged ≡ ends_of link place e → ⊥
-  changed_judged_all link = by_one (λ (x : HostState). ends_of link place x ≡ ends_of link place e → ⊥) (λ k m h is. changed e place stamp who k m h (free k h) fit is link)
-
+  changed_judged_all link = by_one (λ (x : HostState). ends_of link place x ≡ ends_of link place e → ⊥) (λ k m h is. changed e place stamp who k m h (free k h).0 fit is link)

@@ -1,7 +1,8 @@
 -- A host of which a connection's message was put into its mailbox.
-use Rattle.std.proofs.Common.{◌≡◌, ℕ, ◌+◌, ◌<◌, List, [], Option, Some, None, length, map, slice_get, option_map, refl, sym, ap, ◌∙◌, subst}
-use Rattle.std.specs.Prelude.{◌≢◌, All}
+use Rattle.std.proofs.Common.{◌≡◌, ℕ, ◌+◌, ◌<◌, Bool, true, false, List, [], ◌∷◌, Option, Some, None, length, map, slice_get, option_map, refl, sym, ap, ◌∙◌, subst, arith}
+use Rattle.std.specs.Prelude.{◌≢◌, ◌↔◌, IsTrue, is_some}
 use Rattle.ds_cert.specs.declared.lane.LaneCert.{LaneCert}
+use Rattle.ds_msg.specs.declared.message.Message.{Message}
 use Rattle.ds_msg.specs.declared.local.LocalMessage.{LocalMessage}
 use Rattle.ds_model.specs.Lists.{at}
 use Rattle.ds_model.specs.Mailbox.{put}
@@ -146,3 +147,15 @@ nothing_delivered e place link within none = there_is (ends_of link place e ≡ 
       let free = none k h in
       ap (λ (x : Conn). record { host = host_of e; conn = x }) (conn_stands e link place k h)
       ∙ sym (delivered_is e place link k h ConnWaits (asks_nothing (site_of e) c (peer scheme (site_of e) k.arrived) free.0 (ap (plain_passed e.desk.here e.desk.desk.rows) free.1))))
+
+-- as the code asks it
+pub not_passed : (passed : Option (ℕ × LocalMessage)) (b : Bool) → b ≡ is_some passed → b ≡ false → passed ≡ None
+not_passed None b is none = refl
+not_passed (Some x) b is none = absurd cc
+
+pub some_left : (hand : List Message) (b : Bool) → (IsTrue b ↔ (hand ≡ [])) → b ≡ false → 0 < length hand
+some_left [] b is some = absurd (no (is.1 refl))
+  where
+    no : b ≡ true → ⊥
+    no q = cc
+some_left (m ∷ rest) b is some = omega arith

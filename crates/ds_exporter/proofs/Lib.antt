@@ -22,3 +22,4 @@ pub mod OneStep
 pub mod PutSteps
 pub mod TakeSteps
 pub mod Stays
+pub mod DeliverVerdicts
