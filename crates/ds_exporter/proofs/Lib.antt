@@ -23,3 +23,5 @@ pub mod PutSteps
 pub mod TakeSteps
 pub mod Stays
 pub mod DeliverVerdicts
+pub mod QueueSteps
+pub mod SiteParts

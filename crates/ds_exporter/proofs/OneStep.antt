@@ -6,7 +6,7 @@ use Rattle.ds_script.specs.declared.note.Note.TheVariants as notes
 use Rattle.ds_msg.specs.declared.message.Message.{Message}
 use Rattle.ds_model.specs.Lists.{at}
 use Rattle.ds_model.specs.World.{Process, Host}
-use Rattle.ds_model.specs.ProcessStep.{Ask, Internal, refused, noted}
+use Rattle.ds_model.specs.ProcessStep.{Ask, Waits, refused, noted}
 use Rattle.ds_model.specs.Step.{perform, step_proc}
 use Rattle.ds_model.proofs.Places.{at_here}
 use Rattle.ds_scheme.specs.TheScheme.{scheme}
@@ -16,7 +16,7 @@ use Rattle.ds_exporter.specs.HostStates.{HostProcess, HostState}
 use Rattle.ds_exporter.specs.PlainHosts.{host_of, site_of, plain_process}
 use Rattle.ds_exporter.specs.Conditions.{IsFit, HasMore}
 use Rattle.ds_exporter.specs.Stamping.{IsBefore, IsUpTo}
-use Rattle.ds_exporter.specs.Stepping.{Asks, IsFree, IsStepped, Steps, next_host, refused_proc, sent_proc}
+use Rattle.ds_exporter.specs.Stepping.{Asks, IsFree, IsStepped, Steps, always, next_host, refused_proc}
 use Rattle.ds_exporter.proofs.Places.{length_at, map_over_at, some_is, there_is}
 use Rattle.ds_exporter.proofs.Stamps.{below_more}
 use Rattle.ds_exporter.proofs.OneProc.{Keeps, with_proc, fits_proc}
@@ -107,3 +107,8 @@ module _ (e : HostState) (p : ℕ) (rule : Rule) (within : p < length e.procs) (
     named = λ link place. refl;
     stamps = below_proc stamp e (at p (refused_proc rule) e.procs) below;
   })
+
+-- NOTHING TO DO
+
+pub waits_still : (e : HostState) (p : ℕ) → p < length e.procs → Asks p e (always Waits) → host_of e ≡ next_host p e
+waits_still e p within asks = there_is (host_of e ≡ next_host p e) e.procs p within (λ x h. sym (performs e p x h (always Waits) asks))

@@ -7,7 +7,7 @@ use Rattle.ds_exporter.specs.Stepping.{proc_actor, sent_proc}
 use Rattle.ds_exporter.proofs.PutSteps.{fits_sent, stepped_put}
 use Rattle.ds_exporter.proofs.exporter.Exporter.put_mail.Goals as goal
 
-pub invariant_of-self-2 : goal.invariant_of-self-3
+pub invariant_of-self-2 : goal.invariant_of-self-2
 invariant_of-self-2 c =
     let e = state_of c.self.inside.parts in
     let within = rw (← c.self.view_is) at c.requires.there in
