@@ -25,3 +25,6 @@ pub mod Stays
 pub mod DeliverVerdicts
 pub mod QueueSteps
 pub mod SiteParts
+pub mod SendSteps
+pub mod Verdicts
+pub mod ActSteps

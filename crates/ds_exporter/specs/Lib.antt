@@ -14,3 +14,5 @@ pub mod Delivering
 pub mod Stepping
 pub mod Sites
 pub mod Taking
+pub mod Sending
+pub mod Acting

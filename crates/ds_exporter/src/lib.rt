@@ -3,6 +3,7 @@
 #![tactic(auto)]
 
 mod accepting;
+mod acting;
 mod arriving;
 mod checking;
 mod delivering;
@@ -19,6 +20,7 @@ mod putting;
 mod queueing;
 mod refusing;
 mod running;
+mod sending;
 mod site;
 mod taking;
 mod ticking;
