@@ -129,7 +129,7 @@ has_again c (d ∷ rows) = go (same_category c d) (has_again c rows)
 pub mapped_number : (here : PubKey) (rows : List Category) (c : Category) → to_number here (with_row here c rows) c ≡ Some (number_of here rows c)
 mapped_number here rows c = go (is_known here rows c) refl
   where
-    abbrev foreign : ℕ → ℕ
+    foreign : ℕ → ℕ
     foreign row = 2 ^ 63 + 2 * row + kind_number c.kind
 
     known : (home there : Bool) (row : ℕ) → (home || there) ≡ true → cond (home || there) (Some (cond home (home_number c) (foreign row))) None ≡ Some (cond home (home_number c) (foreign row))
