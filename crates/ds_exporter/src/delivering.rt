@@ -56,12 +56,7 @@ impl Exporter {
         ensures err { OnErr result (self.new ≡ self.old) }
         ensures stamps { IsUpTo stamp self.new }
     {
-        put_passed(
-            &mut self.parts.conns,
-            place,
-            &mut self.parts.boxes,
-            stamp,
-        )?;
+        put_passed(&mut self.parts.conns, place, &mut self.parts.boxes, stamp)?;
         Ok(())
     }
 
