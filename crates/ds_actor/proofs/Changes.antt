@@ -116,7 +116,7 @@ agreed_with here rows c n us all e = go (is_named c us)
 
 -- ---- a category more
 
-next_home : (here : PubKey) (index made : ℕ) (kind : Kind) → index < 2 ^ 30 → made < 2 ^ 32 → is_home here (next_category here index made kind) ≡ true
+pub next_home : (here : PubKey) (index made : ℕ) (kind : Kind) → index < 2 ^ 30 → made < 2 ^ 32 → is_home here (next_category here index made kind) ≡ true
 next_home here index made kind few less = rw ((bytes_eq-Decides here.0 here.0).1 refl) (below (index * 2 ^ 32 + made) (2 ^ 62) (omega arith))
   where
     below : (n m : ℕ) → n < m → nat_lt n m ≡ true

@@ -1,13 +1,10 @@
 //! A change of a process's label, and a category that it makes.
 
-ghost use Rattle.std.specs.Prelude.{◌≡◌, ◌<◌, ◌^◌, ◌∷◌, [], List, Option, IfOk, OnErr, IsTrue, length};
-ghost use Rattle.ds_label.specs.declared.category.Category.{Category};
+ghost use Rattle.std.specs.Prelude.{◌≡◌, ◌<◌, ◌^◌, ◌∷◌, [], Option, IfOk, OnErr, IsTrue, length};
 ghost use Rattle.ds_label.specs.Names.{by_name};
-ghost use Rattle.ds_script.specs.Names.{IsNewNumber};
 ghost use Rattle.ds_msg.specs.declared.message.Message.{Message};
-ghost use Rattle.ds_model.specs.World.{Process};
 ghost use Rattle.ds_model.specs.FirstRule.{first_rule};
-ghost use Rattle.ds_model.specs.Mapping.{home_number, next_category};
+ghost use Rattle.ds_model.specs.Mapping.{next_category};
 ghost use Rattle.ds_model.specs.ExporterRules.{known_rule};
 ghost use Rattle.ds_model.specs.ProcessRules.{may_make, may_relabel};
 ghost use Rattle.ds_model.specs.ProcessStep.{make, relabel};
@@ -15,6 +12,7 @@ ghost use Rattle.ds_map.specs.Labels.{have_names};
 ghost use Rattle.ds_actor.specs.Usable.{IsAgreed};
 ghost use Rattle.ds_actor.specs.Seen.{UnderTables, process_of, proc_labels};
 ghost use Rattle.ds_actor.specs.Asks.{IsAsked, IsInside, StaysUnless};
+ghost use Rattle.ds_actor.specs.Asking.{HasTable, MovesInside};
 
 use crate::ask::ProcessAsk;
 use crate::names::numbers_of;
@@ -36,6 +34,8 @@ pub(crate) fn set_label(
     requires going { process.old.process.course.place < length process.old.process.script }
     ensures inside { IfOk result IsInside }
     ensures still { IfOk result (λ a. StaysUnless a process.old process.new) }
+    ensures moved { IfOk result (λ a. MovesInside a process.old.process process.new.process) }
+    ensures script { process.new.process.script ≡ process.old.process.script }
     ensures err { OnErr result (process.new.process ≡ process.old.process) }
     ensures names { UnderTables here.now [] process.old.process (λ rows. IsAgreed here.now rows process.new.process.names) }
     ensures labels { UnderTables here.now [] process.old.process (λ rows. IsTrue (have_names here.now rows (proc_labels process.new.process))) }
@@ -60,8 +60,8 @@ pub(crate) fn set_label(
 }
 
 /// Makes a category, or says by which rule the process may not make one: `TooMany`. It needs room, a process that hasn't ended
-/// and whose index is below 2^30, and usable names of which no other has the new category's number. After `AllocError`,
-/// which says that memory ran out, and after a refusal the process is the same.
+/// and whose index is below 2^30, and usable names that have the numbers of one table. After `AllocError`, which says that
+/// memory ran out, and after a refusal the process is the same.
 pub(crate) fn new_category(
     here: &PubKey,
     index: u32,
@@ -71,9 +71,11 @@ pub(crate) fn new_category(
     requires room { 0 < process.old.room }
     requires going { process.old.process.course.place < length process.old.process.script }
     requires index { index < 2 ^ 30 }
-    requires new { let c = next_category here.now index process.old.process.made kind in IsNewNumber c (home_number c) process.old.process.names }
+    requires agreed { HasTable here.now process.old.process.names }
     ensures inside { IfOk result IsInside }
     ensures still { IfOk result (λ a. StaysUnless a process.old process.new) }
+    ensures moved { IfOk result (λ a. MovesInside a process.old.process process.new.process) }
+    ensures script { process.new.process.script ≡ process.old.process.script }
     ensures err { OnErr result (process.new.process ≡ process.old.process) }
     ensures names { UnderTables here.now [] process.old.process (λ rows. IsAgreed here.now rows process.new.process.names) }
     ensures labels { UnderTables here.now [] process.old.process (λ rows. IsTrue (have_names here.now rows (proc_labels process.new.process))) }

@@ -1,6 +1,6 @@
 //! Acts in public: a delegation, an import, and the mapping of a category.
 
-ghost use Rattle.std.specs.Prelude.{◌≡◌, ◌<◌, ◌^◌, ◌∷◌, [], List, Option, IfOk};
+ghost use Rattle.std.specs.Prelude.{◌≡◌, ◌<◌, ◌^◌, ◌∷◌, [], Option, IfOk};
 ghost use Rattle.ds_label.specs.declared.category.Category.{Category};
 ghost use Rattle.ds_label.specs.declared.category.PubKey.{PubKey as Key};
 ghost use Rattle.ds_label.specs.declared.rule.Rule.TheVariants as rules;
@@ -15,9 +15,9 @@ ghost use Rattle.ds_model.specs.Mapping.{is_known};
 ghost use Rattle.ds_model.specs.Desk.{Delegating, Importing, Mapping};
 ghost use Rattle.ds_model.specs.ProcessStep.{publish, publish_rule};
 ghost use Rattle.ds_actor.specs.Sites.{SitePlan};
-ghost use Rattle.ds_actor.specs.Usable.{categories};
 ghost use Rattle.ds_actor.specs.Seen.{UnderTables, process_of};
 ghost use Rattle.ds_actor.specs.Asks.{IsAsked, IsAskInRange};
+ghost use Rattle.ds_actor.specs.Asking.{SendsNothing};
 
 use crate::ask::{DeskRequest, ProcessAsk};
 use crate::names::number_in;
@@ -69,6 +69,7 @@ pub(crate) fn ask_delegate(
     until: u64,
 ) -> ProcessAsk
     requires { reg < 8 }
+    ensures sends_nothing { SendsNothing result }
     ensures range { (site : SitePlan) → IsAskInRange site result }
     ensures asked { UnderTables here.now [] process.now.process (λ rows. (hand : Option Message) (y : Process) → let x = process_of here.now rows hand process.now.process in
         IsAsked here.now rows x y result (publish x (Delegating category.now to.now from until) reg host
@@ -92,6 +93,7 @@ pub(crate) fn ask_delegate(
 /// What a process asks that imports the certificate in a register. `AllocError` where memory runs out.
 pub(crate) fn ask_import(process: &Proc, reg: u8) -> Result<ProcessAsk, AllocError>
     requires { reg < 8 }
+    ensures sends_nothing { IfOk result SendsNothing }
     ensures range { (site : SitePlan) → IfOk result (IsAskInRange site) }
     ensures asked { (here : Key) → UnderTables here [] process.now.process (λ rows. (hand : Option Message) (y : Process) → let x = process_of here rows hand process.now.process in
         IfOk result (λ a. IsAsked here rows x y a (publish x (Importing (register reg x.course)) 0 0 (publish_rule x)))) }
@@ -110,6 +112,7 @@ pub(crate) fn ask_import(process: &Proc, reg: u8) -> Result<ProcessAsk, AllocErr
 /// What a process asks that maps a category. Takes no memory.
 pub(crate) fn ask_map(process: &Proc, category: &Category) -> ProcessAsk
     requires { category.now.number < 2 ^ 62 }
+    ensures sends_nothing { SendsNothing result }
     ensures range { (site : SitePlan) → IsAskInRange site result }
     ensures asked { (here : Key) → UnderTables here [] process.now.process (λ rows. (hand : Option Message) (y : Process) → let x = process_of here rows hand process.now.process in
         IsAsked here rows x y result (publish x (Mapping category.now) 0 0 (publish_rule x))) }

@@ -1,6 +1,6 @@
 //! A judged message in a process's hand.
 
-ghost use Rattle.std.specs.Prelude.{◌≡◌, List, IfOk};
+ghost use Rattle.std.specs.Prelude.{List, IfOk};
 ghost use Rattle.ds_label.specs.declared.category.Category.{Category};
 ghost use Rattle.ds_label.specs.declared.category.PubKey.{PubKey};
 ghost use Rattle.ds_model.specs.World.{Process};
@@ -8,6 +8,7 @@ ghost use Rattle.ds_model.specs.Plan.{HostPlan};
 ghost use Rattle.ds_model.specs.ProcessStep.{lane_of, queue_at};
 ghost use Rattle.ds_actor.specs.Sites.{with_site};
 ghost use Rattle.ds_actor.specs.Asks.{IsAsked, IsCopied, IsAskInRange};
+ghost use Rattle.ds_actor.specs.Asking.{IsOfHand};
 
 use crate::ask::ProcessAsk;
 use crate::site::Site;
@@ -15,7 +16,8 @@ use ds_msg::Message;
 use std::alloc::AllocError;
 
 /// What a process asks with this judged message in its hand: that it goes onto its lane. `AllocError` where memory runs out.
-pub(crate) fn ask_queue<S: Site>(site: &S, message: &Message) -> Result<ProcessAsk, AllocError>
+pub fn ask_queue<S: Site>(site: &S, message: &Message) -> Result<ProcessAsk, AllocError>
+    ensures hand { IfOk result IsOfHand }
     ensures copied { IfOk result IsCopied }
     ensures range { IfOk result (IsAskInRange (S.seen site.now)) }
     ensures asked { (here : PubKey) (rows : List Category) (plan : HostPlan) (x y : Process) →

@@ -1,6 +1,6 @@
 //! A send, to the own host or to another.
 
-ghost use Rattle.std.specs.Prelude.{◌≡◌, ◌<◌, ◌∷◌, ◌==◌, [], ℕ, List, length, Option, Some, None, IsTrue, IfOk, IfSome, option_copied, position};
+ghost use Rattle.std.specs.Prelude.{◌≡◌, ◌<◌, ◌∷◌, ◌==◌, [], ℕ, List, length, Option, Some, None, IsTrue, IfOk, IfSome, option_copied};
 ghost use Rattle.ds_label.specs.declared.category.Category.{Category};
 ghost use Rattle.ds_label.specs.declared.rule.Rule.TheVariants as rules;
 ghost use Rattle.ds_script.specs.Inner.{register};
@@ -18,6 +18,7 @@ ghost use Rattle.ds_actor.specs.Usable.{categories, numbers_by};
 ghost use Rattle.ds_actor.specs.Sites.{label_at, with_site};
 ghost use Rattle.ds_actor.specs.Seen.{UnderTables, process_of};
 ghost use Rattle.ds_actor.specs.Asks.{IsAsked, IsCopied, IsAskInRange, HasMailNames};
+ghost use Rattle.ds_actor.specs.Asking.{IsOutside};
 ghost use Rattle.ds_actor.specs.Sending.{IsJudged};
 
 use crate::ask::ProcessAsk;
@@ -160,6 +161,7 @@ fn put_into<S: Site>(
 ) -> Result<ProcessAsk, AllocError>
     requires { reg < 8 }
     ensures copied { IfOk result IsCopied }
+    ensures outside { IfOk result IsOutside }
     ensures range { IfOk result (IsAskInRange (S.seen site.now)) }
     ensures names { (rows : List Category) → IsTrue (have_names (S.seen site.now).here rows (numbers.label ∷ numbers.own ∷ numbers.clear ∷ []))
         → IfOk result (HasMailNames (S.seen site.now).here rows) }
@@ -195,6 +197,7 @@ fn ask_here<S: Site>(
 ) -> Result<ProcessAsk, AllocError>
     requires { reg < 8 }
     ensures copied { IfOk result IsCopied }
+    ensures outside { IfOk result IsOutside }
     ensures range { IfOk result (IsAskInRange (S.seen site.now)) }
     ensures names { UnderTables (S.seen site.now).here [] process.now.process (λ rows. IfOk result (HasMailNames (S.seen site.now).here rows)) }
     ensures asked { UnderTables (S.seen site.now).here (S.seen site.now).boxes process.now.process (λ rows.
@@ -249,6 +252,7 @@ fn ask_away<S: Site>(
     requires reg { reg < 8 }
     requires host { host < length (S.seen site.now).keys }
     ensures copied { IfOk result IsCopied }
+    ensures outside { IfOk result IsOutside }
     ensures range { IfOk result (IsAskInRange (S.seen site.now)) }
     ensures names { (rows : List Category) → IfOk result (HasMailNames (S.seen site.now).here rows) }
     ensures asked { UnderTables (S.seen site.now).here [] process.now.process (λ rows.
@@ -295,6 +299,7 @@ pub(crate) fn ask_send<S: Site>(
     requires reg { reg < 8 }
     requires host { host < length (S.seen site.now).keys }
     ensures copied { IfOk result IsCopied }
+    ensures outside { IfOk result IsOutside }
     ensures range { IfOk result (IsAskInRange (S.seen site.now)) }
     ensures names { UnderTables (S.seen site.now).here [] process.now.process (λ rows. IfOk result (HasMailNames (S.seen site.now).here rows)) }
     ensures asked { UnderTables (S.seen site.now).here (S.seen site.now).boxes process.now.process (λ rows.

@@ -1,7 +1,6 @@
 //! A take from a mailbox of the own host.
 
-ghost use Rattle.std.specs.Prelude.{◌≡◌, ◌<◌, ◌∷◌, ◌==◌, [], List, Option};
-ghost use Rattle.ds_label.specs.declared.category.Category.{Category};
+ghost use Rattle.std.specs.Prelude.{◌≡◌, ◌<◌, ◌∷◌, ◌==◌, [], Option};
 ghost use Rattle.ds_label.specs.declared.rule.Rule.TheVariants as rules;
 ghost use Rattle.ds_label.specs.Numbers.{by_number};
 ghost use Rattle.ds_msg.specs.declared.message.Message.{Message};
@@ -13,6 +12,7 @@ ghost use Rattle.ds_model.specs.ProcessStep.{box_of, take_from, take_rule};
 ghost use Rattle.ds_actor.specs.Sites.{with_site};
 ghost use Rattle.ds_actor.specs.Seen.{UnderTables, process_of};
 ghost use Rattle.ds_actor.specs.Asks.{IsAsked, IsAskInRange};
+ghost use Rattle.ds_actor.specs.Asking.{SendsNothing};
 
 use crate::ask::ProcessAsk;
 use crate::site::Site;
@@ -44,6 +44,7 @@ pub(crate) fn ask_take<S: Site>(
     slot: u32,
 ) -> ProcessAsk
     requires { reg < 8 }
+    ensures sends_nothing { SendsNothing result }
     ensures range { IsAskInRange (S.seen site.now) result }
     ensures asked { UnderTables (S.seen site.now).here (S.seen site.now).boxes process.now.process (λ rows.
         (plan : HostPlan) (hand : Option Message) (y : Process) → let q = with_site (S.seen site.now) rows plan in

@@ -14,7 +14,12 @@ use Rattle.ds_actor.specs.Usable.{IsAgreed}
 use Rattle.ds_actor.specs.Seen.{process_of, proc_labels}
 use Rattle.ds_actor.proofs.Sites.{first_named, second_named, third_named}
 use Rattle.ds_actor.proofs.Changes.{own_named, made_agreed, made}
+use Rattle.ds_actor.proofs.Numbered.{new_home}
 use Rattle.ds_actor.proofs.labels.new_category.Goals as goal
+
+pub new_category-requires-clause-new : goal.new_category-requires-clause-new
+new_category-requires-clause-new c =
+    new_home c.args.here.now c.args.process.now.process.names c.args.index c.args.process.now.process.made c.args.kind c.requires.index (omega (arith, c.made-made.ensures)) c.requires.agreed
 
 pub returns-in-Ok-clause-names : goal.returns-in-Ok-clause-names
 returns-in-Ok-clause-names c = λ rows table agreed named.
