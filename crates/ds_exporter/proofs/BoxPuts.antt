@@ -1,7 +1,6 @@
 -- A change of one mailbox, and a message that comes to it.
-use Rattle.std.proofs.Common.{◌≡◌, ℕ, zero, suc, ◌+◌, ◌<◌, Bool, true, false, List, [], ◌∷◌, ◌++◌, Option, Some, None, length, map, slice_get, option_map, refl, sym, ap, ◌∙◌, subst, arith}
-use Rattle.std.specs.Prelude.{◌≢◌, All, nat_lt, get_or, if◌then◌else◌}
-use Rattle.std.specs.List.{Any}
+use Rattle.std.proofs.Common.{◌≡◌, ℕ, zero, suc, ◌+◌, ◌<◌, Bool, true, false, List, [], ◌∷◌, Option, Some, None, length, map, slice_get, option_map, refl, sym, ap, ◌∙◌, subst, arith}
+use Rattle.std.specs.Prelude.{◌≢◌, All, nat_lt, if◌then◌else◌}
 use Rattle.std.proofs.lemmas.List.{length-map, map-append}
 use Rattle.std.proofs.lemmas.List.Elements.{All-append}
 use Rattle.std.proofs.lemmas.Option.{slice_get-map, get_or_from_slice_get}
@@ -12,11 +11,9 @@ use Rattle.ds_script.proofs.Replays.{last_of-push}
 use Rattle.ds_msg.specs.declared.local.LocalMessage.{LocalMessage}
 use Rattle.ds_model.specs.Lists.{at}
 use Rattle.ds_model.specs.Plan.{BoxPlan, box_plan, no_box}
-use Rattle.ds_model.specs.Mailbox.{PutIn, FoundFull, box_after, box_enter, put, put_entry}
+use Rattle.ds_model.specs.Mailbox.{PutIn, FoundFull, box_enter, put, put_entry}
 use Rattle.ds_model.specs.World.{Mailbox}
-use Rattle.ds_box.specs.declared.entry.BoxEntry.{BoxEntry}
 use Rattle.ds_box.specs.Boxes.{entered, entry_of, stamp_of}
-use Rattle.ds_inlet.specs.Connections.{Connection}
 use Rattle.ds_exporter.specs.HostStates.{HostBox, HostState}
 use Rattle.ds_exporter.specs.PlainHosts.{host_of, site_of, plain_box, plain_entry, plain_mail, plan_of_box}
 use Rattle.ds_exporter.specs.Conditions.{HasBox, IsBoxNamed, IsEntryNamed, IsFit, IsMailNamed, IsOwned, PassedHasBox}

@@ -1,5 +1,5 @@
 -- What a connection asks that delivers.
-use Rattle.std.proofs.Common.{◌≡◌, ℕ, ◌<◌, Bool, List, [], ◌∷◌, ◌++◌, Option, Some, None, length, map, slice_get, option_map, refl, sym, ap, ◌∙◌, subst, append_assoc}
+use Rattle.std.proofs.Common.{◌≡◌, ℕ, ◌<◌, List, [], ◌∷◌, ◌++◌, Option, Some, None, length, slice_get, option_map, refl, sym, ap, ◌∙◌, subst, append_assoc}
 use Rattle.std.specs.Prelude.{◌==◌}
 use Rattle.std.proofs.lemmas.List.Quantifiers.{position-Some}
 use Rattle.ds_label.specs.declared.category.PubKey.{PubKey}
@@ -18,7 +18,7 @@ use Rattle.ds_model.specs.ProcessStep.{box_of as box_place, label_of, target}
 use Rattle.ds_model.specs.Scheme.{InletName, Item as Seen}
 use Rattle.ds_model.specs.Plan.{BoxPlan, HostPlan}
 use Rattle.ds_model.specs.World.{Conn, Passed}
-use Rattle.ds_model.specs.ConnectionStep.{ConnAsk, ConnWaits, AsksArrival, PutsPassed, deliver_from, deliver_to, hello_of, judge_delivery, peer, put_passed, target_rule}
+use Rattle.ds_model.specs.ConnectionStep.{ConnWaits, AsksArrival, PutsPassed, deliver_from, deliver_to, hello_of, judge_delivery, peer, put_passed, target_rule}
 use Rattle.ds_map.specs.Labels.{named}
 use Rattle.ds_inlet.specs.Hosts.{host_item, host_reading, items_of, seen_of_items, seen_or_none}
 use Rattle.ds_inlet.specs.Connections.{Connection}

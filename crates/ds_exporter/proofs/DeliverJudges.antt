@@ -1,5 +1,5 @@
 -- A host of which a connection's first message was judged.
-use Rattle.std.proofs.Common.{◌≡◌, ℕ, suc, ◌+◌, ◌<◌, ◌≤◌, List, [], ◌∷◌, Option, Some, None, length, map, slice_get, option_map, refl, sym, ap, ◌∙◌, subst, arith}
+use Rattle.std.proofs.Common.{◌≡◌, ℕ, ◌<◌, ◌≤◌, List, ◌∷◌, Option, Some, None, length, slice_get, option_map, refl, sym, ap, ◌∙◌, subst, arith}
 use Rattle.std.specs.Prelude.{◌≢◌, Result, Ok, Err}
 use Rattle.ds_label.specs.declared.rule.Rule.{Rule}
 use Rattle.ds_cert.specs.declared.lane.LaneCert.{LaneCert}
@@ -19,11 +19,11 @@ use Rattle.ds_inlet.specs.Connections.{Connection, passed_from, passed_on, refus
 use Rattle.ds_inlet.specs.PlainConnections.{plain_conn}
 use Rattle.ds_inlet.proofs.PlainCalls.{plain_drop, plain_pass}
 use Rattle.ds_scheme.specs.TheScheme.{scheme}
-use Rattle.ds_exporter.specs.HostStates.{HostBox, HostState}
-use Rattle.ds_exporter.specs.PlainHosts.{conn_at, conn_of, ends_of, host_of, plain_mail, plain_passed, site_of}
+use Rattle.ds_exporter.specs.HostStates.{HostState}
+use Rattle.ds_exporter.specs.PlainHosts.{conn_at, conn_of, ends_of, host_of, plain_passed, site_of}
 use Rattle.ds_exporter.specs.Conditions.{IsFit}
 use Rattle.ds_exporter.specs.Stamping.{IsBefore, IsUpTo, last_of_desk}
-use Rattle.ds_exporter.specs.Delivering.{IsFrontJudged, IsJudged, IsJudgedAt, IsVerdict, after_verdict, delivery_rule}
+use Rattle.ds_exporter.specs.Delivering.{IsJudged, IsJudgedAt, IsVerdict, after_verdict}
 use Rattle.ds_exporter.proofs.Places.{some_is, there_is}
 use Rattle.ds_exporter.proofs.Tables.{fits_desk}
 use Rattle.ds_exporter.proofs.Stamps.{below_more}
@@ -149,8 +149,8 @@ module _ (e : HostState) (place stamp : ℕ) (who : Actor) (ready desk : DeskVie
   by_one : (P : HostState → Type 0) → ((k m : Connection) (h : slice_get e.conns place ≡ Some k) (is : IsJudged e.desk e.boxes k m) → P (with_judged e place stamp who k m h (free k h).0 fit is)) → P after_judged
   by_one P f = there_is (P after_judged) e.conns place within
       (λ k h.
-        let q = subst (λ (d : DeskView). IsJudgedAt d e.boxes place e.conns conns) reserved judged k h in
-        subst P (sym ((λ i. record e { desk = looks i; conns = q.1 i }) ∙ same e place stamp who k q.0 h (free k h).0 fit q.2)) (f k q.0 h q.2))
+      let q = subst (λ (d : DeskView). IsJudgedAt d e.boxes place e.conns conns) reserved judged k h in
+      subst P (sym ((λ i. record e { desk = looks i; conns = q.1 i }) ∙ same e place stamp who k q.0 h (free k h).0 fit q.2)) (f k q.0 h q.2))
 
   pub fits_judged_all : IsReplay desk → IsFit after_judged
   fits_judged_all replay = by_one IsFit (λ k m h is. fits e place stamp who k m h (free k h).0 fit is (subst IsReplay looks replay))

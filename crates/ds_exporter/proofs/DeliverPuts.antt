@@ -1,13 +1,12 @@
 -- A host of which a connection's message was put into its mailbox.
-use Rattle.std.proofs.Common.{◌≡◌, ℕ, ◌+◌, ◌<◌, Bool, true, false, List, [], ◌∷◌, Option, Some, None, length, map, slice_get, option_map, refl, sym, ap, ◌∙◌, subst, arith}
+use Rattle.std.proofs.Common.{◌≡◌, ℕ, ◌<◌, Bool, true, false, List, [], ◌∷◌, Option, Some, None, length, map, slice_get, option_map, refl, sym, ap, ◌∙◌, subst, arith}
 use Rattle.std.specs.Prelude.{◌≢◌, ◌↔◌, IsTrue, is_some}
 use Rattle.ds_cert.specs.declared.lane.LaneCert.{LaneCert}
 use Rattle.ds_msg.specs.declared.message.Message.{Message}
 use Rattle.ds_msg.specs.declared.local.LocalMessage.{LocalMessage}
 use Rattle.ds_model.specs.Lists.{at}
-use Rattle.ds_model.specs.Mailbox.{put}
-use Rattle.ds_model.specs.Plan.{HostPlan, box_plan}
-use Rattle.ds_model.specs.World.{Conn, Host, Passed}
+use Rattle.ds_model.specs.Plan.{HostPlan}
+use Rattle.ds_model.specs.World.{Conn, Passed}
 use Rattle.ds_model.specs.ConnectionStep.{ConnAsk, ConnWaits, PutsPassed, deliver, deliver_from, peer}
 use Rattle.ds_model.specs.Step.{HostAndConn, perform_conn}
 use Rattle.ds_model.proofs.Places.{at_here, at_other}
@@ -18,7 +17,6 @@ use Rattle.ds_exporter.specs.HostStates.{HostBox, HostState}
 use Rattle.ds_exporter.specs.PlainHosts.{arrived_at, conn_at, conn_of, ends_of, host_of, name_of_inlet, plain_mail, plain_passed, site_of}
 use Rattle.ds_exporter.specs.Conditions.{HasHelloFirst, IsConnNamed, IsFit, IsMailNamed, IsPassedNamed, LeadsTo}
 use Rattle.ds_exporter.specs.Stamping.{IsBefore, IsUpTo}
-use Rattle.ds_exporter.specs.Mailboxes.{put_in}
 use Rattle.ds_exporter.specs.Delivering.{IsPut, IsPutAt}
 use Rattle.ds_exporter.proofs.Places.{all_get, some_is, there_is}
 use Rattle.ds_exporter.proofs.OneConn.{Keeps, arrived_stands, conn_stands, fits_conn}
@@ -118,8 +116,8 @@ module _ (e : HostState) (place stamp : ℕ) (conns : List Connection) (boxes : 
   by_one : (P : HostState → Type 0) → ((k m : Connection) (h : slice_get e.conns place ≡ Some k) (is : IsPut stamp k m e.boxes boxes) → P (put_there e place stamp k m boxes h fit is)) → P after_put
   by_one P f = there_is (P after_put) e.conns place within
       (λ k h.
-        let q = puts k h in
-        subst P (sym (ap (λ (cs : List Connection). record e { boxes = boxes; conns = cs }) q.1 ∙ same e place stamp k q.0 boxes h fit q.2)) (f k q.0 h q.2))
+      let q = puts k h in
+      subst P (sym (ap (λ (cs : List Connection). record e { boxes = boxes; conns = cs }) q.1 ∙ same e place stamp k q.0 boxes h fit q.2)) (f k q.0 h q.2))
 
   pub fits_put_all : IsFit after_put
   fits_put_all = by_one IsFit (λ k m h is. fits e place stamp k m boxes h fit is)
@@ -143,10 +141,10 @@ module _ (e : HostState) (place stamp : ℕ) (conns : List Connection) (boxes : 
 pub nothing_delivered : (e : HostState) (place : ℕ) (link : List ℕ) → place < length e.conns → ((k : Connection) → slice_get e.conns place ≡ Some k → (k.hand ≡ []) × (k.passed ≡ None)) → ends_of link place e ≡ delivered e place link
 nothing_delivered e place link within none = there_is (ends_of link place e ≡ delivered e place link) e.conns place within
     (λ k h.
-      let c = conn_of e.desk.here e.desk.desk.rows link k in
-      let free = none k h in
-      ap (λ (x : Conn). record { host = host_of e; conn = x }) (conn_stands e link place k h)
-      ∙ sym (delivered_is e place link k h ConnWaits (asks_nothing (site_of e) c (peer scheme (site_of e) k.arrived) free.0 (ap (plain_passed e.desk.here e.desk.desk.rows) free.1))))
+    let c = conn_of e.desk.here e.desk.desk.rows link k in
+    let free = none k h in
+    ap (λ (x : Conn). record { host = host_of e; conn = x }) (conn_stands e link place k h)
+    ∙ sym (delivered_is e place link k h ConnWaits (asks_nothing (site_of e) c (peer scheme (site_of e) k.arrived) free.0 (ap (plain_passed e.desk.here e.desk.desk.rows) free.1))))
 
 -- as the code asks it
 pub not_passed : (passed : Option (ℕ × LocalMessage)) (b : Bool) → b ≡ is_some passed → b ≡ false → passed ≡ None

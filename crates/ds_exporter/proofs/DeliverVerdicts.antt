@@ -125,9 +125,9 @@ slot_found boxes slot i e =
     let within = place_within boxes slot i e in
     there_is (Any (λ b. b.slot ≡ slot) boxes) boxes i within
     (λ b h.
-      let at = index_stands boxes i b h in
-      let has = (position-Some (has_slot slot) boxes i b e).1 in
-      (i, b, within, at, same_slot b.slot slot (subst (λ (c : HostBox). has_slot slot c ≡ true) at has)))
+    let at = index_stands boxes i b h in
+    let has = (position-Some (has_slot slot) boxes i b e).1 in
+    (i, b, within, at, same_slot b.slot slot (subst (λ (c : HostBox). has_slot slot c ≡ true) at has)))
 
 slot_is : (a b : ℕ) → a ≡ b → (a == b) ≡ true
 slot_is a b e = grind (arith, nat_tests)

@@ -2,8 +2,10 @@
 #![tactic(auto)]
 
 ghost use Rattle.std.specs.Prelude.{◌≡◌, ◌≢◌, ◌<◌, ℕ, List, [], Some, None, Ok, true, is_some, length, map, slice_get, IsTrue, OnOk, OnErr, IfOk, ◌↔◌};
+ghost use Rattle.ds_model.specs.Desk.{Looked};
 ghost use Rattle.ds_model.specs.ConnectionStep.{deliver};
 ghost use Rattle.ds_model.specs.Step.{perform_conn};
+ghost use Rattle.ds_desk.specs.Desks.{entered};
 ghost use Rattle.ds_inlet.specs.Connections.{Connection};
 ghost use Rattle.ds_scheme.specs.TheScheme.{scheme};
 ghost use Rattle.ds_exporter.specs.HostStates.{connection_of};
@@ -38,6 +40,7 @@ fn has_empty_hand(conns: &ConnList, place: usize) -> bool
 /// The actor of the connection at a place.
 fn who_at(conns: &ConnList, place: usize) -> Actor
     requires { place < length conns.now.items }
+    ensures { (k : Connection) → slice_get (map connection_of conns.now.items) place ≡ Some k → result ≡ k.who }
 {
     conns[place].who()
 }
@@ -56,12 +59,7 @@ impl Exporter {
         ensures err { OnErr result (self.new ≡ self.old) }
         ensures stamps { IsUpTo stamp self.new }
     {
-        put_passed(
-            &mut self.parts.conns,
-            place,
-            &mut self.parts.boxes,
-            stamp,
-        )?;
+        put_passed(&mut self.parts.conns, place, &mut self.parts.boxes, stamp)?;
         Ok(())
     }
 
@@ -74,6 +72,7 @@ impl Exporter {
         ensures ends { (link : List ℕ) → OnOk result (ends_of link place self.new ≡
             perform_conn scheme (site_of self.old) (host_of self.old) (conn_at link place self.old) (deliver scheme (site_of self.old) (conn_at link place self.old) (arrived_at place self.old))) }
         ensures changed { (link : List ℕ) → OnOk result (ends_of link place self.new ≢ ends_of link place self.old) }
+        ensures looked { OnOk result ((k : Connection) → slice_get self.old.conns place ≡ Some k → self.new.desk ≡ entered stamp k.who Looked self.old.desk) }
         ensures others { (other : ℕ) → other ≢ place → slice_get self.new.conns other ≡ slice_get self.old.conns other }
         ensures site { site_of self.new ≡ site_of self.old }
         ensures err { OnErr result (self.new ≡ self.old) }

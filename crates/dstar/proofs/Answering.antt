@@ -15,7 +15,7 @@ use Rattle.lms_sig.specs.declared.params.Params.{Params}
 use Rattle.dstar.specs.declared.call.Call.{Call}
 use Rattle.dstar.specs.declared.call.Call.TheVariants.{Sim, Small}
 use Rattle.dstar.specs.Outside.{input_limit}
-use Rattle.dstar.specs.Runs.{TextOf, IsNoDocument}
+use Rattle.dstar.proofs.Sims.{sim_alike}
 use Rattle.dstar.specs.Causes.{Observed, ReadWhole, Caused, Answers, Answered, Gives, IsDecided, name_of, status_of, text_in}
 
 -- the bytes that were read to the end are the ones that the input told
@@ -43,16 +43,7 @@ sign_alike params index mark other (Some marks) (Ok (secret, message)) decided m
 -- two answers of a call over the same bytes end alike
 alike : (call : Call) (now mark other : ℕ) (told : Option (List ℕ → ℕ)) (bytes : List ℕ) (r s : Reply) → IsDecided call told
     → Marked told (name_of call bytes) mark → Marked told (name_of call bytes) other → Gives call now mark bytes r → Gives call now other bytes s → status_of r ≡ status_of s
-alike Sim now mark other told bytes (Prints text) (Prints text') d m o g h = refl
-alike Sim now mark other told bytes (Prints text) (Denies text') d m o g h = absurd h
-alike Sim now mark other told bytes (Prints text) (Breaks code place) d m o g h = absurd (h.2 g.document g.reads)
-alike Sim now mark other told bytes (Prints text) Spends d m o g h = absurd h
-alike Sim now mark other told bytes (Denies text) s d m o g h = absurd g
-alike Sim now mark other told bytes (Breaks code place) (Prints text') d m o g h = absurd (g.2 h.document h.reads)
-alike Sim now mark other told bytes (Breaks code place) (Denies text') d m o g h = absurd h
-alike Sim now mark other told bytes (Breaks code place) (Breaks code' place') d m o g h = rw g.0 (rw g.1 (rw h.0 (rw h.1 refl)))
-alike Sim now mark other told bytes (Breaks code place) Spends d m o g h = absurd h
-alike Sim now mark other told bytes Spends s d m o g h = absurd g
+alike Sim now mark other told bytes r s d m o g h = sim_alike bytes r s g h
 alike (Small (Keygen params index)) now mark other told bytes r s d m o g h =
     ap status_of g ∙ keygen_alike params index mark other (secret_alone bytes) ∙ sym (ap status_of h)
 alike (Small (Sign params index)) now mark other told bytes r s d m o g h =

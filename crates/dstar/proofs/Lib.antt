@@ -4,4 +4,5 @@ pub mod Runs
 pub mod Steps
 pub mod Still
 pub mod Rounds
+pub mod Sims
 pub mod Answering

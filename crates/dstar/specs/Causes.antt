@@ -14,7 +14,7 @@ use Rattle.dstar.specs.declared.call.Call.TheVariants.{Sim, Small}
 use Rattle.dstar.specs.declared.status.Status.{Status}
 use Rattle.dstar.specs.declared.status.Status.TheVariants as ends
 use Rattle.dstar.specs.Outside.{input_limit, WroteFront}
-use Rattle.dstar.specs.Runs.{TextOf, IsNoDocument}
+use Rattle.dstar.specs.Sims.{SimGives}
 
 -- What a call saw and did outside: the bytes that the input told and the bytes that the output told, the marks that the keeper
 -- told, and the counts of the input's faults and ends, of the output's faults and of the keeper's, before and after.
@@ -36,12 +36,9 @@ pub record Observed : Type 0 where
 
 -- WHAT A CALL ANSWERS, by the moment, the mark of its key and its whole input
 
--- `sim`: the text of the document's run, or code 14 at place 0 where the input is no document; each other command its reply
+-- `sim` the text of the document's run, or what is wrong with the input; each other command its reply
 abbrev pub Gives : Call → (now mark : ℕ) → List ℕ → Reply → Type 0
-Gives Sim now mark bytes (Prints text) = TextOf bytes text
-Gives Sim now mark bytes (Breaks code place) = (code ≡ 14) × (place ≡ 0) × IsNoDocument bytes
-Gives Sim now mark bytes (Denies text) = ⊥
-Gives Sim now mark bytes Spends = ⊥
+Gives Sim now mark bytes reply = SimGives bytes reply
 Gives (Small command) now mark bytes reply = reply ≡ reply_of command now mark bytes
 
 -- the name of the mark that a call looks at

@@ -12,4 +12,5 @@ pub mod Text
 pub mod Runs
 pub mod Codes
 pub mod Words
+pub mod Sims
 pub mod Causes

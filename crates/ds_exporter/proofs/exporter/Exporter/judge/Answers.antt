@@ -1,6 +1,8 @@
-use Rattle.std.proofs.Common.{◌≡◌, sym, map, subst}
+use Rattle.std.proofs.Common.{◌≡◌, ◌∙◌, ap₂, sym, map, subst}
 use Rattle.std.specs.Prelude.{All}
-use Rattle.ds_desk.specs.Desks.{DeskView, kept_of}
+use Rattle.ds_script.specs.declared.actor.Actor.{Actor}
+use Rattle.ds_model.specs.Desk.{Looked}
+use Rattle.ds_desk.specs.Desks.{DeskView, entered, kept_of}
 use Rattle.ds_exporter.specs.HostStates.{HostState, box_of, connection_of, state_of}
 use Rattle.ds_exporter.specs.PlainHosts.{ends_of}
 use Rattle.ds_exporter.specs.Conditions.{HasHelloFirst, IsBoxNamed}
@@ -71,3 +73,8 @@ returns-clause-stamps c =
     let below = rw (← c.self.view_is) at c.requires.later in
     below_judged_all e c.args.place c.args.stamp c.who_at-who.result (kept_of c.reserve.new.self) (kept_of c.look.new.self) (map connection_of c.judge_at.new.conns.items) within (λ k h. ready k h) c.self.invariant
     c.in_ok-reserve.ensures.same c.look.ensures.entry (λ k h. c.in_ok-judge_at.ensures.ok k h) below c.look.ensures.last
+
+pub returns-clause-looked : goal.returns-clause-looked
+returns-clause-looked c =
+    rw (← c.self.view_is)
+    (λ k h. c.look.ensures.entry ∙ ap₂ (λ (who : Actor) (d : DeskView). entered c.args.stamp who Looked d) (c.who_at-who.ensures k h) c.in_ok-reserve.ensures.same)

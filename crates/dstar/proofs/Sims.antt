@@ -1,0 +1,64 @@
+-- What the bytes say they say once, and so `sim` has one answer.
+use Rattle.std.proofs.Common.{◌≡◌, ℕ, List, Option, Some, None, refl, sym, ap, ◌∙◌, inl, inr, Result, Ok, Err}
+use Rattle.serde_json.specs.Data.{Data}
+use Rattle.ds_commands.specs.declared.reply.Reply.{Reply}
+use Rattle.ds_commands.specs.declared.reply.Reply.TheVariants.{Prints, Denies, Breaks, Spends}
+use Rattle.ds_plan.specs.declared.doc.Doc.{Doc}
+use Rattle.ds_doc.specs.Reading.{Document, answer_of}
+use Rattle.dstar.specs.declared.status.Status.{Status}
+use Rattle.dstar.specs.declared.status.Status.TheVariants as ends
+use Rattle.dstar.specs.Sims.{SimGives, IsSomeDocument, IsRefused, IsUnused}
+use Rattle.dstar.specs.Causes.{status_of}
+
+abbrev or_this : Data → Option Data → Data
+or_this d None = d
+or_this d (Some e) = e
+
+-- one value
+one_value : (d e : Data) (o : Option Data) → o ≡ Some d → o ≡ Some e → d ≡ e
+one_value d e o x y = ap (or_this d) (sym x ∙ y)
+
+-- a value and none
+no_value : (d : Data) (o : Option Data) → o ≡ None → o ≡ Some d → ⊥
+no_value d o x y = let h : None ≡ Some d = sym x ∙ y in absurd cc
+
+said_once : (bytes : List ℕ) (r s : Result Doc (ℕ × ℕ)) → Document bytes r → Document bytes s → r ≡ s
+said_once bytes r s (inl a) (inl b) = a.1 ∙ sym b.1
+said_once bytes r s (inl a) (inr b) = absurd (no_value b.0 _ (a.0 b.1.0) b.1.1)
+said_once bytes r s (inr a) (inl b) = absurd (no_value a.0 _ (b.0 a.1.0) a.1.1)
+said_once bytes r s (inr a) (inr b) = a.2 ∙ ap answer_of (one_value a.0 b.0 _ a.1.1 b.1.1) ∙ sym b.2
+
+-- bytes that break a rule say no document
+never_both : (bytes : List ℕ) (code place : ℕ) → IsRefused bytes code place → IsSomeDocument bytes → ⊥
+never_both bytes code place refused some =
+    let h : ◌≡◌ {A = Result Doc (ℕ × ℕ)} (Err (code, place)) (Ok some.0) = said_once bytes (Err (code, place)) (Ok some.0) refused some.1 in absurd cc
+
+abbrev status_in : Result Doc (ℕ × ℕ) → Status
+status_in (Ok d) = ends.Ok
+status_in (Err e) = ends.Document e.0 e.1
+
+-- two refusals of the same bytes
+refusals_alike : (bytes : List ℕ) (code place code' place' : ℕ) → SimGives bytes (Breaks code place) → SimGives bytes (Breaks code' place')
+    → ends.Document code place ≡ ends.Document code' place'
+refusals_alike bytes code place code' place' (inl g) (inl h) = ap status_in (said_once bytes (Err (code, place)) (Err (code', place')) g h)
+refusals_alike bytes code place code' place' (inl g) (inr h) = absurd (never_both bytes code place g h.document)
+refusals_alike bytes code place code' place' (inr g) (inl h) = absurd (never_both bytes code' place' h g.document)
+refusals_alike bytes code place code' place' (inr g) (inr h) = rw g.by_code (rw g.at (rw h.by_code (rw h.at refl)))
+
+-- a text and a refusal
+never_printed : (bytes text : List ℕ) (code place : ℕ) → SimGives bytes (Prints text) → SimGives bytes (Breaks code place) → ⊥
+never_printed bytes text code place g (inl h) = never_both bytes code place h g.0
+never_printed bytes text code place g (inr h) = h.unread g.1.document g.1.reads
+
+-- two answers to the same bytes end alike
+pub sim_alike : (bytes : List ℕ) (r s : Reply) → SimGives bytes r → SimGives bytes s → status_of r ≡ status_of s
+sim_alike bytes (Prints text) (Prints other) g h = refl
+sim_alike bytes (Prints text) (Denies other) g h = absurd h
+sim_alike bytes (Prints text) (Breaks code place) g h = absurd (never_printed bytes text code place g h)
+sim_alike bytes (Prints text) Spends g h = absurd h
+sim_alike bytes (Denies text) s g h = absurd g
+sim_alike bytes (Breaks code place) (Prints text) g h = absurd (never_printed bytes text code place h g)
+sim_alike bytes (Breaks code place) (Denies text) g h = absurd h
+sim_alike bytes (Breaks code place) (Breaks code' place') g h = refusals_alike bytes code place code' place' g h
+sim_alike bytes (Breaks code place) Spends g h = absurd h
+sim_alike bytes Spends s g h = absurd g
