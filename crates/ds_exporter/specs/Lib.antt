@@ -16,3 +16,4 @@ pub mod Sites
 pub mod Taking
 pub mod Sending
 pub mod Acting
+pub mod Asking

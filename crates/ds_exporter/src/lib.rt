@@ -5,6 +5,7 @@
 mod accepting;
 mod acting;
 mod arriving;
+mod asking;
 mod checking;
 mod delivering;
 mod exporter;
@@ -22,6 +23,7 @@ mod refusing;
 mod running;
 mod sending;
 mod site;
+mod stepping;
 mod taking;
 mod ticking;
 
