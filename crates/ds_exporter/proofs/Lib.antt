@@ -28,3 +28,5 @@ pub mod SiteParts
 pub mod SendSteps
 pub mod Verdicts
 pub mod ActSteps
+pub mod Rooms
+pub mod OuterSteps
