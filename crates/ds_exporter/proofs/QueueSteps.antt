@@ -1,5 +1,5 @@
 -- A process of which the judged message goes onto its lane.
-use Rattle.std.proofs.Common.{◌≡◌, ℕ, suc, ◌+◌, ◌<◌, Bool, true, List, [], ◌∷◌, Option, Some, None, length, map, slice_get, option_map, refl, sym, ap, ◌∙◌, subst, arith}
+use Rattle.std.proofs.Common.{◌≡◌, ℕ, suc, ◌+◌, ◌<◌, Bool, true, false, List, [], ◌∷◌, Option, Some, None, length, map, slice_get, option_map, refl, sym, ap, ◌∙◌, subst, arith}
 use Rattle.std.specs.Prelude.{◌++◌, ◌&&◌, All, position, get_or, is_some}
 use Rattle.std.proofs.lemmas.Option.{slice_get-map, get_or_from_slice_get}
 use Rattle.std.proofs.lemmas.List.{length-map}
@@ -196,3 +196,8 @@ module _ (e : HostState) (p l : ℕ) (m : Message) (within : p < length e.procs)
 pub with_more : (hand : Option Message) (place size : ℕ) → is_some hand ≡ true → HasMore hand place size → place < size
 with_more None place size some more = absurd cc
 with_more (Some m) place size some more = more
+
+-- without one its hand is empty
+pub empty_hand : (hand : Option Message) (some : Bool) → some ≡ is_some hand → some ≡ false → hand ≡ None
+empty_hand None some is none = refl
+empty_hand (Some m) some is none = absurd cc
