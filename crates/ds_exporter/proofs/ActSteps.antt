@@ -4,7 +4,7 @@ use Rattle.std.specs.Prelude.{◌^◌, All, nat_le, nat_lt}
 use Rattle.std.proofs.lemmas.Bool.Decides.{nat_tests}
 use Rattle.std.proofs.lemmas.List.Elements.{All-push, recursion_from_All}
 use Rattle.ds_label.specs.declared.rule.Rule.{Rule}
-use Rattle.ds_label.specs.declared.rule.Rule.TheVariants.{TableFull}
+use Rattle.ds_label.specs.declared.rule.Rule.TheVariants.{BadCert, KeySpent, StoreFull, TableFull}
 use Rattle.ds_label.specs.declared.category.PubKey.{PubKey}
 use Rattle.ds_label.specs.declared.category.Category.{Category}
 use Rattle.ds_label.specs.Names.{same_category, by_name}
@@ -15,12 +15,15 @@ use Rattle.ds_script.specs.declared.actor.Actor.{Actor}
 use Rattle.ds_script.specs.declared.note.Note.TheVariants as notes
 use Rattle.ds_script.specs.declared.usable.Usable.{Usable}
 use Rattle.ds_script.specs.Names.{is_named, with_name}
+use Rattle.ds_cert.specs.declared.delegation.Delegation.{Delegation}
+use Rattle.ds_cert.specs.declared.cert.Cert.{Cert}
+use Rattle.ds_cert.specs.declared.cert.Cert.TheVariants as certs
 use Rattle.ds_model.specs.Lists.{at}
-use Rattle.ds_model.specs.FirstRule.{unless}
+use Rattle.ds_model.specs.FirstRule.{first_rule, unless}
 use Rattle.ds_model.specs.Mapping.{is_home, is_known, home_number, kind_number, number_of, row_limit, row_of, to_number, with_row}
-use Rattle.ds_model.specs.Scheme.{Scheme}
+use Rattle.ds_model.specs.Scheme.{Scheme, delegation_by}
 use Rattle.ds_model.specs.Plan.{HostPlan}
-use Rattle.ds_model.specs.Desk.{Act, Delegating, Importing, Mapping, Desk, DeskEntry, Mapped, Reply, Local, Refuse, Made, Done, desk_after, entry_unless, reply_of}
+use Rattle.ds_model.specs.Desk.{Act, Delegating, Importing, Mapping, Desk, DeskEntry, Delegated, Imported, Mapped, Reply, Local, Refuse, Made, Done, desk_after, entry_unless, import_entry, import_rule, is_good, reply_of, store_limit}
 use Rattle.ds_model.specs.World.{Process, Host}
 use Rattle.ds_model.specs.ProcessStep.{PublicAct, act_after_reply, noted}
 use Rattle.ds_desk.specs.Desks.{IsReplay, entered}
@@ -205,3 +208,57 @@ module _ (e : HostState) (p stamp : ℕ) (who : Actor) (c : Category) (n : ℕ) 
 pub not_stray : (own : Bool) (limit n : ℕ) → n < limit → (own && nat_le limit n) ≡ false
 not_stray true limit n below = grind (arith, nat_tests)
 not_stray false limit n below = refl
+
+-- THE LEAF OF THE DESK'S KEY
+
+one_more : (n : ℕ) → suc n ≡ n + 1
+one_more n = omega arith
+
+module _ (s : Scheme) (plan : HostPlan) (here : PubKey) (d : Desk) where
+  -- a delegation that was made took a leaf
+  made_leaf : (new : Delegation) (rule : Option Rule) (bytes : List ℕ) → reply_of s plan d (entry_unless rule (Delegated new)) ≡ Made bytes → (desk_after here (entry_unless rule (Delegated new)) d).leaf ≡ d.leaf + 1
+  made_leaf new None bytes e = one_more d.leaf
+  made_leaf new (Some rule) bytes e = absurd (no e)
+    where
+      no : Refuse rule ≡ Made bytes → ⊥
+      no q = cc
+
+  -- and one that was refused took none
+  refused_leaf : (new : Delegation) (rule : Option Rule) (why : Rule) → reply_of s plan d (entry_unless rule (Delegated new)) ≡ Refuse why → (desk_after here (entry_unless rule (Delegated new)) d).leaf ≡ d.leaf
+  refused_leaf new None why e = absurd (no e)
+    where
+      no : Made (s.spelling new) ≡ Refuse why → ⊥
+      no q = cc
+  refused_leaf new (Some rule) why e = refl
+
+  -- nor do an import and a mapping
+  kept_leaf : (new : Cert) (rule : Option Rule) → (desk_after here (entry_unless rule (Imported new)) d).leaf ≡ d.leaf
+  kept_leaf (certs.Delegation new) None = refl
+  kept_leaf (certs.Address new) None = refl
+  kept_leaf new (Some rule) = refl
+
+  import_leaf : (read : Option Cert) → (desk_after here (import_entry s d read) d).leaf ≡ d.leaf
+  import_leaf None = refl
+  import_leaf (Some new) = kept_leaf new (first_rule (unless (is_good s new) BadCert ∷ import_rule d new ∷ []))
+
+  map_leaf : (c : Category) (rule : Option Rule) → (desk_after here (entry_unless rule (Mapped c)) d).leaf ≡ d.leaf
+  map_leaf c None = refl
+  map_leaf c (Some rule) = refl
+
+module _ (e : HostState) (stamp : ℕ) (who : Actor) where
+  abbrev leaf_after : Act → ℕ
+  leaf_after act = (with_entry e stamp who (entry_of e act)).desk.desk.leaf
+
+  pub leaf_made : (c : Category) (to : PubKey) (from until : ℕ) (bytes : List ℕ) → answer_of e (Delegating c to from until) ≡ Made bytes → leaf_after (Delegating c to from until) ≡ e.desk.desk.leaf + 1
+  leaf_made c to from until bytes answer = made_leaf scheme (site_of e) e.desk.here e.desk.desk (delegation_by scheme (site_of e).signing e.desk.desk.leaf e.desk.here c to from until)
+      (first_rule (unless (nat_lt (length e.desk.desk.store) store_limit) StoreFull ∷ unless (scheme.has_leaf (site_of e).signing e.desk.desk.leaf) KeySpent ∷ [])) bytes answer
+
+  pub leaf_refused : (c : Category) (to : PubKey) (from until : ℕ) (rule : Rule) → answer_of e (Delegating c to from until) ≡ Refuse rule → leaf_after (Delegating c to from until) ≡ e.desk.desk.leaf
+  leaf_refused c to from until rule answer = refused_leaf scheme (site_of e) e.desk.here e.desk.desk (delegation_by scheme (site_of e).signing e.desk.desk.leaf e.desk.here c to from until)
+      (first_rule (unless (nat_lt (length e.desk.desk.store) store_limit) StoreFull ∷ unless (scheme.has_leaf (site_of e).signing e.desk.desk.leaf) KeySpent ∷ [])) rule answer
+
+  pub leaf_imported : (bytes : List ℕ) → leaf_after (Importing bytes) ≡ e.desk.desk.leaf
+  leaf_imported bytes = import_leaf scheme (site_of e) e.desk.here e.desk.desk (scheme.read_cert bytes)
+
+  pub leaf_mapped : (c : Category) → leaf_after (Mapping c) ≡ e.desk.desk.leaf
+  leaf_mapped c = map_leaf scheme (site_of e) e.desk.here e.desk.desk c (unless (is_known e.desk.here e.desk.desk.rows c || nat_lt (length e.desk.desk.rows) row_limit) TableFull)

@@ -1,5 +1,6 @@
 -- A step of a process: what it asks, and what becomes of its host.
-use Rattle.std.specs.Prelude.{◌≡◌, ◌≢◌, ◌<◌, ℕ, List, None, Some, length, slice_get}
+use Rattle.std.specs.Prelude.{◌≡◌, ◌≢◌, ◌<◌, ◌⊎◌, ◌+◌, ℕ, List, Option, None, Some, length, slice_get}
+use Rattle.ds_base.specs.Marks.{Raised}
 use Rattle.ds_label.specs.declared.rule.Rule.{Rule}
 use Rattle.ds_label.specs.declared.category.Category.{Category}
 use Rattle.ds_script.specs.declared.actor.Actor.{Actor}
@@ -81,3 +82,10 @@ pub record IsStepped (stamp p : ℕ) (old new : HostState) : Type 0 where
 abbrev pub Steps : Moved → (stamp p : ℕ) → (old new : HostState) → Type 0
 Steps Changed stamp p old new = IsStepped stamp p old new
 Steps Still stamp p old new = (new ≡ old) × (host_of old ≡ next_host p old)
+
+-- The keeper is as it was where the desk's key is at the leaf where it was; else the key is at the next leaf, and its mark was
+-- raised to that one.
+abbrev pub GoesAlong : (old new : HostState) → (IsSame : Type 0) → (before after : Option (List ℕ → ℕ)) → Type 0
+GoesAlong old new IsSame before after =
+    ((new.desk.desk.leaf ≡ old.desk.desk.leaf) × IsSame)
+    ⊎ ((new.desk.desk.leaf ≡ old.desk.desk.leaf + 1) × Raised before old.desk.key.id (old.desk.desk.leaf + 1) after)

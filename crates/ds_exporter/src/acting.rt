@@ -1,9 +1,9 @@
 //! Public acts, which the desk does.
 #![tactic(auto)]
 
-ghost use Rattle.std.specs.Prelude.{◌≡◌, ◌⊎◌, ◌<◌, ◌≤◌, ◌^◌, ◌+◌, Err, Some, length, map, slice_get, OnOk, OnErr};
+ghost use Rattle.std.specs.Prelude.{◌≡◌, ◌<◌, ◌≤◌, ◌^◌, ◌+◌, Err, Some, length, map, slice_get, OnOk, OnErr};
 ghost use Rattle.ds_base.specs.Counts.{Rose};
-ghost use Rattle.ds_base.specs.Marks.{MayBeRaised, Raised};
+ghost use Rattle.ds_base.specs.Marks.{MayBeRaised};
 ghost use Rattle.ds_script.specs.Fits.{IsShort};
 ghost use Rattle.ds_model.specs.Lists.{at};
 ghost use Rattle.ds_model.specs.Desk.{Delegating, Importing, Mapping};
@@ -12,7 +12,7 @@ ghost use Rattle.ds_actor.specs.Asks.{act_of};
 ghost use Rattle.ds_exporter.specs.HostStates.{HostProcess, process_of};
 ghost use Rattle.ds_exporter.specs.Acting.{AsksAct, IsRequestInRange, JoinsAt, MapsSo, delegated_proc, imported_proc, mapped_proc};
 ghost use Rattle.ds_exporter.specs.Stamping.{IsBefore};
-ghost use Rattle.ds_exporter.specs.Stepping.{Asks, IsFree, IsReadyAt, IsStepped, always};
+ghost use Rattle.ds_exporter.specs.Stepping.{Asks, GoesAlong, IsFree, IsReadyAt, IsStepped, always};
 
 use crate::exporter::Exporter;
 use crate::moved::CoreFault;
@@ -92,7 +92,7 @@ impl Exporter {
         ensures faults { K.faults keeper.old ≤ K.faults keeper.new }
         ensures fault { result ≡ Err CoreFault.KeeperFault → Rose (K.faults keeper.old) (K.faults keeper.new) }
         ensures untouched { result ≡ Err CoreFault.NoMemory → keeper.new ≡ keeper.old }
-        ensures raised { OnOk result ((keeper.new ≡ keeper.old) ⊎ Raised (K.tells keeper.old) self.old.desk.key.id (self.old.desk.desk.leaf + 1) (K.tells keeper.new)) }
+        ensures raised { OnOk result (GoesAlong self.old self.new (keeper.new ≡ keeper.old) (K.tells keeper.old) (K.tells keeper.new)) }
         ensures may_be_raised { result ≡ Err CoreFault.KeeperFault → MayBeRaised (K.tells keeper.old) self.old.desk.key.id (self.old.desk.desk.leaf + 1) (K.tells keeper.new) }
     {
         let who = Actor {
@@ -130,6 +130,7 @@ impl Exporter {
         requires asks { AsksAct index self.old (Importing bytes.now) }
         requires later { IsBefore stamp self.old }
         ensures ok { OnOk result (IsStepped stamp index self.old self.new) }
+        ensures leaf { OnOk result (self.new.desk.desk.leaf ≡ self.old.desk.desk.leaf) }
         ensures err { OnErr result (self.new ≡ self.old) }
     {
         let who = Actor {
@@ -160,6 +161,7 @@ impl Exporter {
         requires range { category.number < 2 ^ 62 }
         requires later { IsBefore stamp self.old }
         ensures ok { OnOk result (IsStepped stamp index self.old self.new) }
+        ensures leaf { OnOk result (self.new.desk.desk.leaf ≡ self.old.desk.desk.leaf) }
         ensures err { OnErr result (self.new ≡ self.old) }
     {
         let who = Actor {
@@ -206,7 +208,7 @@ impl Exporter {
         ensures faults { K.faults keeper.old ≤ K.faults keeper.new }
         ensures fault { result ≡ Err CoreFault.KeeperFault → Rose (K.faults keeper.old) (K.faults keeper.new) }
         ensures untouched { result ≡ Err CoreFault.NoMemory → keeper.new ≡ keeper.old }
-        ensures raised { OnOk result ((keeper.new ≡ keeper.old) ⊎ Raised (K.tells keeper.old) self.old.desk.key.id (self.old.desk.desk.leaf + 1) (K.tells keeper.new)) }
+        ensures raised { OnOk result (GoesAlong self.old self.new (keeper.new ≡ keeper.old) (K.tells keeper.old) (K.tells keeper.new)) }
         ensures may_be_raised { result ≡ Err CoreFault.KeeperFault → MayBeRaised (K.tells keeper.old) self.old.desk.key.id (self.old.desk.desk.leaf + 1) (K.tells keeper.new) }
     {
         match request {

@@ -50,6 +50,7 @@ impl Exporter {
         ensures asks { IfOk result (AsksSo index self.new) }
         ensures range { IfOk result (IsInRange self.new) }
         ensures copied { IfOk result IsCopied }
+        ensures desk { self.new.desk ≡ self.old.desk }
         ensures err { OnErr result (self.new ≡ self.old) }
     {
         let _rows = self.parts.desk.table.rows();

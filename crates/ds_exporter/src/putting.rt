@@ -35,6 +35,7 @@ impl Exporter {
         requires same { kept ≡ message }
         requires later { IsBefore stamp self.old }
         ensures ok { OnOk result (IsStepped stamp index self.old self.new) }
+        ensures desk { self.new.desk ≡ self.old.desk }
         ensures err { OnErr result (self.new ≡ self.old) }
     {
         let who = Actor {

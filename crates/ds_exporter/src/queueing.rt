@@ -194,6 +194,7 @@ impl Exporter {
         requires same { kept ≡ message }
         requires later { IsBefore stamp self.old }
         ensures ok { OnOk result (IsStepped stamp index self.old self.new) }
+        ensures desk { self.new.desk ≡ self.old.desk }
         ensures err { OnErr result (self.new ≡ self.old) }
     {
         if !goes_onto(&self.parts.lanes, lane, &message) {
@@ -218,6 +219,7 @@ impl Exporter {
         requires hand { (x : HostProcess) → slice_get self.old.procs index ≡ Some x → is_some x.hand ≡ true }
         requires later { IsBefore stamp self.old }
         ensures ok { IfOk result (λ moved. Steps moved stamp index self.old self.new) }
+        ensures desk { self.new.desk ≡ self.old.desk }
         ensures err { OnErr result (self.new ≡ self.old) }
     {
         match self.ask_of_hand(index as usize)? {

@@ -19,6 +19,7 @@ impl Exporter {
         requires free { IsFree place self.old }
         requires asks { Asks place self.old (refused rule) }
         ensures ok { (stamp : ℕ) → IsBefore stamp self.old → OnOk result (IsStepped stamp place self.old self.new) }
+        ensures desk { self.new.desk ≡ self.old.desk }
         ensures err { OnErr result (self.new ≡ self.old) }
     {
         reserve_proc(&mut self.parts.procs, place)?;

@@ -132,6 +132,7 @@ impl Exporter {
         requires short { IsShort message.payload }
         requires later { IsBefore stamp self.old }
         ensures ok { OnOk result (IsStepped stamp index self.old self.new) }
+        ensures leaf { OnOk result (self.new.desk.desk.leaf ≡ self.old.desk.desk.leaf) }
         ensures err { OnErr result (self.new ≡ self.old) }
     {
         let who = Actor {

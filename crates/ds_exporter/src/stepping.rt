@@ -1,9 +1,9 @@
 //! Processes that step.
 #![tactic(auto)]
 
-ghost use Rattle.std.specs.Prelude.{◌≡◌, ◌⊎◌, ◌<◌, ◌≤◌, ◌+◌, ℕ, List, None, Some, Ok, Err, length, slice_get, OnOk, OnErr, IfOk};
+ghost use Rattle.std.specs.Prelude.{◌≡◌, ◌<◌, ◌≤◌, ◌+◌, ℕ, List, None, Some, Ok, Err, length, slice_get, OnOk, OnErr, IfOk};
 ghost use Rattle.ds_base.specs.Counts.{Rose};
-ghost use Rattle.ds_base.specs.Marks.{MayBeRaised, Raised};
+ghost use Rattle.ds_base.specs.Marks.{MayBeRaised};
 ghost use Rattle.ds_model.specs.Step.{step_proc};
 ghost use Rattle.ds_scheme.specs.TheScheme.{scheme};
 ghost use Rattle.ds_exporter.specs.HostStates.{HostProcess};
@@ -11,7 +11,7 @@ ghost use Rattle.ds_exporter.specs.PlainHosts.{arrived_at, conn_at, host_of, sit
 ghost use Rattle.ds_exporter.specs.Moving.{Moves};
 ghost use Rattle.ds_exporter.specs.Running.{inside_of};
 ghost use Rattle.ds_exporter.specs.Stamping.{IsBefore, IsUpTo};
-ghost use Rattle.ds_exporter.specs.Stepping.{Steps};
+ghost use Rattle.ds_exporter.specs.Stepping.{GoesAlong, Steps};
 
 use crate::exporter::Exporter;
 use crate::moved::{CoreFault, Moved};
@@ -36,7 +36,7 @@ impl Exporter {
         ensures faults { K.faults keeper.old ≤ K.faults keeper.new }
         ensures fault { result ≡ Err CoreFault.KeeperFault → Rose (K.faults keeper.old) (K.faults keeper.new) }
         ensures untouched { result ≡ Err CoreFault.NoMemory → keeper.new ≡ keeper.old }
-        ensures raised { OnOk result ((keeper.new ≡ keeper.old) ⊎ Raised (K.tells keeper.old) self.old.desk.key.id (self.old.desk.desk.leaf + 1) (K.tells keeper.new)) }
+        ensures raised { OnOk result (GoesAlong self.old self.new (keeper.new ≡ keeper.old) (K.tells keeper.old) (K.tells keeper.new)) }
         ensures may_be_raised { result ≡ Err CoreFault.KeeperFault → MayBeRaised (K.tells keeper.old) self.old.desk.key.id (self.old.desk.desk.leaf + 1) (K.tells keeper.new) }
     {
         match self.ask(index)? {
@@ -98,7 +98,7 @@ impl Exporter {
         ensures faults { K.faults keeper.old ≤ K.faults keeper.new }
         ensures fault { result ≡ Err CoreFault.KeeperFault → Rose (K.faults keeper.old) (K.faults keeper.new) }
         ensures untouched { result ≡ Err CoreFault.NoMemory → keeper.new ≡ keeper.old }
-        ensures raised { OnOk result ((keeper.new ≡ keeper.old) ⊎ Raised (K.tells keeper.old) self.old.desk.key.id (self.old.desk.desk.leaf + 1) (K.tells keeper.new)) }
+        ensures raised { OnOk result (GoesAlong self.old self.new (keeper.new ≡ keeper.old) (K.tells keeper.old) (K.tells keeper.new)) }
         ensures may_be_raised { result ≡ Err CoreFault.KeeperFault → MayBeRaised (K.tells keeper.old) self.old.desk.key.id (self.old.desk.desk.leaf + 1) (K.tells keeper.new) }
     {
         if has_hand(&self.parts.procs, index as usize) {

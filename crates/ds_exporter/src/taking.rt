@@ -74,6 +74,7 @@ impl Exporter {
         requires asks { Asks index self.old (always (TakeFrom place reg slot)) }
         requires later { IsBefore stamp self.old }
         ensures ok { IfOk result (λ moved. Steps moved stamp index self.old self.new) }
+        ensures desk { self.new.desk ≡ self.old.desk }
         ensures err { OnErr result (self.new ≡ self.old) }
     {
         let _rows = self.parts.desk.table.rows();

@@ -9,7 +9,7 @@ use Rattle.ds_exporter.specs.PlainHosts.{site_of}
 use Rattle.ds_exporter.specs.Acting.{MapsSo, answer_of, delegated_proc, entry_of, imported_proc, mapped_proc}
 use Rattle.ds_exporter.specs.Stamping.{last_of_desk}
 use Rattle.ds_exporter.specs.Stepping.{proc_actor, refused_proc}
-use Rattle.ds_exporter.proofs.ActSteps.{ends_imported, ends_refused, fits_done, stepped_done}
+use Rattle.ds_exporter.proofs.ActSteps.{ends_imported, ends_refused, fits_done, leaf_imported, stepped_done}
 use Rattle.ds_exporter.proofs.exporter.Exporter.import.Goals as goal
 
 pub invariant_of-self-in-Ok : goal.invariant_of-self-in-Ok
@@ -77,3 +77,17 @@ pub returns-in-Err-NoMemory-clause-err : goal.returns-in-Err-NoMemory-clause-err
 returns-in-Err-NoMemory-clause-err c =
     let desk : kept_of c.import.new.self ≡ kept_of c.self.inside.parts.desk = rw c.in-Err-NoMemory.field-0-is at (c.in-Err-NoMemory.ensures.entry scheme (site_of (state_of c.self.inside.parts))) in
     rw (desk, c.in_ok-reserve_proc.ensures.same) c.self.view_is
+
+pub returns-in-Ok-clause-leaf : goal.returns-in-Ok-clause-leaf
+returns-in-Ok-clause-leaf c =
+    let e = state_of c.self.inside.parts in
+    let who : Actor = proc_actor c.self.inside.parts.host c.args.index in
+    let desk : kept_of c.import.new.self ≡ entered c.args.stamp who (entry_of e (Importing c.args.bytes.now)) e.desk = subst (λ (bytes : List ℕ). kept_of c.import.new.self ≡ entered c.args.stamp who (entry_of e (Importing bytes)) e.desk) c.as_slice.ensures (c.in-Ok.ensures.entry scheme (site_of e)) in
+    rw (← c.self.view_is) (ap (λ (k : DeskView). k.desk.leaf) desk ∙ leaf_imported e c.args.stamp who c.args.bytes.now)
+
+pub returns-in-Err-Refused-clause-leaf : goal.returns-in-Err-Refused-clause-leaf
+returns-in-Err-Refused-clause-leaf c =
+    let e = state_of c.self.inside.parts in
+    let who : Actor = proc_actor c.self.inside.parts.host c.args.index in
+    let desk : kept_of c.import.new.self ≡ entered c.args.stamp who (entry_of e (Importing c.args.bytes.now)) e.desk = subst (λ (bytes : List ℕ). kept_of c.import.new.self ≡ entered c.args.stamp who (entry_of e (Importing bytes)) e.desk) c.as_slice.ensures (rw c.in-Err-Refused.field-0-is at (c.in-Err-Refused.ensures.entry scheme (site_of e))) in
+    rw (← c.self.view_is) (ap (λ (k : DeskView). k.desk.leaf) desk ∙ leaf_imported e c.args.stamp who c.args.bytes.now)

@@ -10,7 +10,7 @@ use Rattle.ds_exporter.specs.PlainHosts.{site_of}
 use Rattle.ds_exporter.specs.Acting.{MapsSo, answer_of, delegated_proc, entry_of, imported_proc, mapped_proc}
 use Rattle.ds_exporter.specs.Stamping.{last_of_desk}
 use Rattle.ds_exporter.specs.Stepping.{proc_actor, refused_proc}
-use Rattle.ds_exporter.proofs.ActSteps.{ends_mapped, joins_at, ends_refused, fits_done, stepped_done}
+use Rattle.ds_exporter.proofs.ActSteps.{ends_mapped, joins_at, ends_refused, fits_done, leaf_mapped, stepped_done}
 use Rattle.ds_exporter.proofs.exporter.Exporter.map.Goals as goal
 
 pub invariant_of-self-in-Ok : goal.invariant_of-self-in-Ok
@@ -87,3 +87,17 @@ mapped_at-requires-clause-joins c =
     let who : Actor = proc_actor c.self.inside.parts.host c.args.index in
     let answer : answer_of e (Mapping c.args.category) ≡ Local c.in-Ok.number = c.in-Ok.ensures.answer scheme (site_of e) in
     rw c.in_ok-reserve_proc.ensures.same (joins_at e c.args.index c.args.stamp who c.args.category c.in-Ok.number answer c.self.invariant)
+
+pub returns-in-Ok-clause-leaf : goal.returns-in-Ok-clause-leaf
+returns-in-Ok-clause-leaf c =
+    let e = state_of c.self.inside.parts in
+    let who : Actor = proc_actor c.self.inside.parts.host c.args.index in
+    let desk : kept_of c.map_foreign.new.self ≡ entered c.args.stamp who (entry_of e (Mapping c.args.category)) e.desk = (c.in-Ok.ensures.entry scheme (site_of e)) in
+    rw (← c.self.view_is) (ap (λ (k : DeskView). k.desk.leaf) desk ∙ leaf_mapped e c.args.stamp who c.args.category)
+
+pub returns-in-Err-Refused-clause-leaf : goal.returns-in-Err-Refused-clause-leaf
+returns-in-Err-Refused-clause-leaf c =
+    let e = state_of c.self.inside.parts in
+    let who : Actor = proc_actor c.self.inside.parts.host c.args.index in
+    let desk : kept_of c.map_foreign.new.self ≡ entered c.args.stamp who (entry_of e (Mapping c.args.category)) e.desk = (rw c.in-Err-Refused.field-0-is at (c.in-Err-Refused.ensures.entry scheme (site_of e))) in
+    rw (← c.self.view_is) (ap (λ (k : DeskView). k.desk.leaf) desk ∙ leaf_mapped e c.args.stamp who c.args.category)
