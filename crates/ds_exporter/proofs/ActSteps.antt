@@ -1,5 +1,5 @@
 -- A process of which the desk did a public act.
-use Rattle.std.proofs.Common.{◌≡◌, ℕ, suc, ◌+◌, ◌*◌, ◌<◌, ◌≤◌, Bool, true, false, ◌&&◌, ◌||◌, cond, List, [], ◌∷◌, ◌++◌, Option, Some, None, length, slice_get, refl, sym, ap, ◌∙◌, subst, arith}
+use Rattle.std.proofs.Common.{◌≡◌, ℕ, suc, ◌+◌, ◌*◌, ◌<◌, ◌≤◌, Bool, true, false, ◌&&◌, ◌||◌, cond, List, [], ◌∷◌, ◌++◌, Option, Some, None, length, slice_get, refl, sym, ap, ◌∙◌, arith}
 use Rattle.std.specs.Prelude.{◌^◌, All, nat_le, nat_lt}
 use Rattle.std.proofs.lemmas.Bool.Decides.{nat_tests}
 use Rattle.std.proofs.lemmas.List.Elements.{All-push, recursion_from_All}
@@ -29,7 +29,7 @@ use Rattle.ds_model.specs.ProcessStep.{PublicAct, act_after_reply, noted}
 use Rattle.ds_desk.specs.Desks.{IsReplay, entered}
 use Rattle.ds_scheme.specs.TheScheme.{scheme}
 use Rattle.ds_exporter.specs.HostStates.{HostProcess, HostState}
-use Rattle.ds_exporter.specs.PlainHosts.{host_of, site_of, plain_process}
+use Rattle.ds_exporter.specs.PlainHosts.{site_of, plain_process}
 use Rattle.ds_exporter.specs.Conditions.{AreNumbered, IsFit, IsNumbered}
 use Rattle.ds_exporter.specs.Acting.{JoinsAt, MapsSo, answer_of, delegated_proc, entry_of, imported_proc, mapped_proc}
 use Rattle.ds_exporter.specs.Stamping.{IsBefore, IsUpTo, last_of_desk}

@@ -1,5 +1,5 @@
 -- A step of one process.
-use Rattle.std.proofs.Common.{◌≡◌, ℕ, suc, ◌+◌, ◌<◌, List, Option, Some, None, length, slice_get, option_map, refl, sym, ap, ◌∙◌, subst, arith}
+use Rattle.std.proofs.Common.{◌≡◌, ℕ, ◌+◌, ◌<◌, List, Option, Some, None, length, slice_get, option_map, refl, sym, ap, ◌∙◌, subst, arith}
 use Rattle.std.proofs.lemmas.Option.{slice_get-map}
 use Rattle.ds_label.specs.declared.rule.Rule.{Rule}
 use Rattle.ds_script.specs.declared.note.Note.TheVariants as notes
@@ -11,7 +11,6 @@ use Rattle.ds_model.specs.Step.{perform, step_proc}
 use Rattle.ds_model.proofs.Places.{at_here}
 use Rattle.ds_scheme.specs.TheScheme.{scheme}
 use Rattle.ds_exporter.specs.declared.moved.Moved.{Moved}
-use Rattle.ds_exporter.specs.declared.moved.Moved.TheVariants.{Changed, Still}
 use Rattle.ds_exporter.specs.HostStates.{HostProcess, HostState}
 use Rattle.ds_exporter.specs.PlainHosts.{host_of, site_of, plain_process}
 use Rattle.ds_exporter.specs.Conditions.{IsFit, HasMore}
@@ -19,7 +18,7 @@ use Rattle.ds_exporter.specs.Stamping.{IsBefore, IsUpTo}
 use Rattle.ds_exporter.specs.Stepping.{Asks, IsFree, IsStepped, Steps, always, next_host, refused_proc}
 use Rattle.ds_exporter.proofs.Places.{length_at, map_over_at, some_is, there_is}
 use Rattle.ds_exporter.proofs.Stamps.{below_more}
-use Rattle.ds_exporter.proofs.OneProc.{Keeps, with_proc, fits_proc}
+use Rattle.ds_exporter.proofs.OneProc.{with_proc, fits_proc}
 
 -- A CHANGE OF A PROCESS BY NAMES
 

@@ -1,16 +1,12 @@
 -- A process that asks by its operation.
-use Rattle.std.proofs.Common.{◌≡◌, ℕ, zero, suc, ◌+◌, ◌<◌, Bool, true, ◌&&◌, List, [], ◌∷◌, Option, Some, None, length, map, slice_get, refl, sym, ap, ◌∙◌, subst, arith}
+use Rattle.std.proofs.Common.{◌≡◌, ℕ, zero, suc, ◌+◌, ◌<◌, true, ◌&&◌, List, [], ◌∷◌, Some, None, length, map, slice_get, refl, sym, ap, ◌∙◌, subst, arith}
 use Rattle.std.specs.Prelude.{All, IsTrue}
 use Rattle.std.specs.List.{list_all}
 use Rattle.std.proofs.lemmas.List.{length-map}
 use Rattle.std.proofs.lemmas.List.Elements.{All-from_recursion, recursion_from_All}
 use Rattle.ds_label.specs.declared.category.PubKey.{PubKey}
 use Rattle.ds_label.specs.declared.category.Category.{Category}
-use Rattle.ds_script.specs.declared.op.Op.{Op}
-use Rattle.ds_script.specs.declared.usable.Usable.{Usable}
-use Rattle.ds_script.specs.Inner.{Course}
-use Rattle.ds_script.specs.Process.{Process as Numbered, ProcView}
-use Rattle.ds_msg.specs.declared.message.Message.{Message}
+use Rattle.ds_script.specs.Process.{Process as Numbered}
 use Rattle.ds_model.specs.Lists.{at}
 use Rattle.ds_model.specs.Plan.{HostPlan}
 use Rattle.ds_model.specs.World.{Process}
@@ -19,7 +15,7 @@ use Rattle.ds_model.specs.Step.{perform}
 use Rattle.ds_model.proofs.Places.{at_still}
 use Rattle.ds_map.specs.Labels.{have_names, has_name}
 use Rattle.ds_map.specs.Table.{IsTable}
-use Rattle.ds_map.proofs.Sets.{and_first, and_second}
+use Rattle.ds_map.proofs.Sets.{and_first}
 use Rattle.ds_scheme.specs.TheScheme.{scheme}
 use Rattle.ds_actor.specs.declared.ask.DeskRequest.TheVariants as requests
 use Rattle.ds_actor.specs.declared.ask.ProcessAsk.{ProcessAsk}
@@ -38,7 +34,7 @@ use Rattle.ds_exporter.specs.Running.{inside_of}
 use Rattle.ds_exporter.specs.Sites.{box_site, fixed_in}
 use Rattle.ds_exporter.specs.Stamping.{IsBefore}
 use Rattle.ds_exporter.specs.Stepping.{Asks, IsFree, IsStepped, always, next_host, put_ask}
-use Rattle.ds_exporter.proofs.Places.{all_get, some_is}
+use Rattle.ds_exporter.proofs.Places.{all_get}
 use Rattle.ds_exporter.proofs.OneProc.{with_proc, fits_proc}
 use Rattle.ds_exporter.proofs.OneStep.{becomes, below_proc, host_by, moved_on, no_hand_more, only, performs, site_proc}
 use Rattle.ds_exporter.proofs.Rooms.{is_site, same_outer}
@@ -78,7 +74,7 @@ module _ (e : HostState) (p : ℕ) (x : HostProcess) (procs : List HostProcess) 
   all_named =
       let q = asked.old.process in
       λ i. first_named here rows q.label q.own q.clear [] own_named i && (second_named here rows q.label q.own q.clear [] own_named i
-        && (third_named here rows q.label q.own q.clear [] own_named i && boxes_named here rows e.boxes fit.named_boxes i))
+      && (third_named here rows q.label q.own q.clear [] own_named i && boxes_named here rows e.boxes fit.named_boxes i))
 
   -- WHAT IT ASKS BY NAMES
 

@@ -1,13 +1,13 @@
 -- A process that puts a message into a mailbox of its host.
-use Rattle.std.proofs.Common.{◌≡◌, ℕ, ◌<◌, Some, None, length, slice_get, refl, sym, ap, ◌∙◌}
+use Rattle.std.proofs.Common.{ℕ, ◌<◌, length, refl, sym, ap, ◌∙◌}
 use Rattle.ds_script.specs.declared.actor.Actor.{Actor}
 use Rattle.ds_script.specs.declared.note.Note.TheVariants as notes
 use Rattle.ds_msg.specs.declared.local.LocalMessage.{LocalMessage}
 use Rattle.ds_model.specs.Lists.{at}
-use Rattle.ds_model.specs.World.{Process, Host}
+use Rattle.ds_model.specs.World.{Host}
 use Rattle.ds_model.specs.ProcessStep.{noted}
 use Rattle.ds_exporter.specs.HostStates.{HostProcess, HostState}
-use Rattle.ds_exporter.specs.PlainHosts.{host_of, site_of, plain_mail, plain_process}
+use Rattle.ds_exporter.specs.PlainHosts.{host_of, plain_mail, plain_process}
 use Rattle.ds_exporter.specs.Conditions.{IsFit, IsMailNamed}
 use Rattle.ds_exporter.specs.Stamping.{IsBefore, IsUpTo}
 use Rattle.ds_exporter.specs.Stepping.{Asks, IsFree, IsStepped, put_ask, sent_proc}

@@ -1,6 +1,6 @@
 -- A process of which the judged message goes onto its lane.
-use Rattle.std.proofs.Common.{◌≡◌, ℕ, suc, ◌+◌, ◌<◌, Bool, true, false, List, [], ◌∷◌, Option, Some, None, length, map, slice_get, option_map, refl, sym, ap, ◌∙◌, subst, arith}
-use Rattle.std.specs.Prelude.{◌++◌, ◌&&◌, All, position, get_or, is_some}
+use Rattle.std.proofs.Common.{◌≡◌, ℕ, ◌+◌, ◌<◌, Bool, true, false, List, Option, Some, None, length, map, slice_get, option_map, refl, sym, ap, ◌∙◌, subst}
+use Rattle.std.specs.Prelude.{◌++◌, ◌&&◌, position, is_some}
 use Rattle.std.proofs.lemmas.Option.{slice_get-map, get_or_from_slice_get}
 use Rattle.std.proofs.lemmas.List.{length-map}
 use Rattle.std.proofs.lemmas.List.Elements.{All-push}
@@ -12,13 +12,12 @@ use Rattle.ds_label.specs.Names.{by_name}
 use Rattle.ds_script.specs.declared.actor.Actor.{Actor}
 use Rattle.ds_script.specs.declared.note.Note.TheVariants as notes
 use Rattle.ds_msg.specs.declared.message.Message.{Message}
-use Rattle.ds_msg.specs.Ranges.{MessageRange}
 use Rattle.ds_model.specs.Keys.{same_key}
 use Rattle.ds_model.specs.Lists.{at}
 use Rattle.ds_model.specs.Lane.{admit, admit_entry}
 use Rattle.ds_model.specs.Plan.{HostPlan, LanePlan, lane_plan, no_lane}
-use Rattle.ds_model.specs.World.{Process, Host, Queue, LaneLine, Waiting}
-use Rattle.ds_model.specs.ProcessStep.{Ask, Waits, Admit, ask, ask_hand, noted, queue_at, lane_of as lane_place}
+use Rattle.ds_model.specs.World.{Process, Waiting}
+use Rattle.ds_model.specs.ProcessStep.{Waits, Admit, ask, ask_hand, noted, queue_at, lane_of as lane_place}
 use Rattle.ds_model.specs.Step.{admitted_lines, lined}
 use Rattle.ds_lane.specs.declared.entry.LaneEntry.{LaneEntry}
 use Rattle.ds_lane.specs.Lanes.{IsOn, entry_of, sent_by}
@@ -36,7 +35,7 @@ use Rattle.ds_exporter.specs.Sites.{cert_of, fixed_in}
 use Rattle.ds_exporter.specs.Queueing.{HandAsks, IsOnAt, IsSentOn, LeadsToLane, admitted_lane, is_lane_for, queued_proc}
 use Rattle.ds_exporter.specs.Stamping.{IsBefore, IsLaneBefore, IsUpTo}
 use Rattle.ds_exporter.specs.Stepping.{Asks, IsStepped, admit_ask, proc_actor}
-use Rattle.ds_exporter.proofs.Places.{all_get, map_kept_at, map_over_at, some_is, there_is}
+use Rattle.ds_exporter.proofs.Places.{all_get, map_kept_at, map_over_at, there_is}
 use Rattle.ds_exporter.proofs.Stamps.{lane_more}
 use Rattle.ds_exporter.proofs.Queues.{log_admitted, position_seen, queue_admitted}
 use Rattle.ds_exporter.proofs.OneLane.{Keeps, with_lane, fits_lane, plan_lane, below_lane, this_below}
@@ -170,7 +169,7 @@ module _ (e : HostState) (p l : ℕ) (m : Message) (within : p < length e.procs)
     logs_after : IsBefore stamp e → map log_of (at l (admitted_lane stamp who m) e.lanes) ≡ at l (lined (admitted_lines (lane_plan (site_of e) l).room w (slice_get (host_of e).queues l))) (host_of e).logs
     logs_after below = map_over_at log_of l (admitted_lane stamp who m) (lined (admitted_lines (lane_plan (site_of e) l).room w (slice_get (host_of e).queues l))) e.lanes
         (λ y h. log_admitted stamp who m y (all_get (IsLaneBefore stamp) e.lanes l y below.lanes h)
-          ∙ λ i. log_of y ++ admitted_lines (sym (planned y h) i).room w (sym (queue_there y h) i))
+        ∙ λ i. log_of y ++ admitted_lines (sym (planned y h) i).room w (sym (queue_there y h) i))
 
     workers_after : map plain_worker (at l (admitted_lane stamp who m) e.lanes) ≡ (host_of e).workers
     workers_after = map_kept_at plain_worker l (admitted_lane stamp who m) e.lanes (λ y h. refl)

@@ -1,8 +1,7 @@
 -- What a process asks doesn't depend on how many messages mailboxes and lanes have room for, nor on how lanes sign.
-use Rattle.std.proofs.Common.{◌≡◌, ℕ, zero, suc, Bool, List, [], ◌∷◌, Option, Some, None, map, refl, sym, ap, ◌∙◌}
+use Rattle.std.proofs.Common.{◌≡◌, ℕ, zero, suc, List, [], ◌∷◌, Option, Some, None, map, refl, ap, ◌∙◌}
 use Rattle.std.specs.Prelude.{◌==◌, get_or, if◌then◌else◌}
 use Rattle.ds_label.specs.declared.category.Category.{Category}
-use Rattle.ds_label.specs.declared.rule.Rule.{Rule}
 use Rattle.ds_label.specs.declared.rule.Rule.TheVariants.{NoBox}
 use Rattle.ds_label.specs.Names.{by_name}
 use Rattle.ds_script.specs.declared.op.Op.{Op}
@@ -11,12 +10,12 @@ use Rattle.ds_msg.specs.declared.message.Message.{Message}
 use Rattle.ds_model.specs.Keys.{same_key}
 use Rattle.ds_model.specs.FirstRule.{first_rule, unless}
 use Rattle.ds_model.specs.ProcessRules.{mailbox_rule, may_take}
-use Rattle.ds_model.specs.Plan.{BoxPlan, HostPlan, LanePlan, box_plan, no_box}
+use Rattle.ds_model.specs.Plan.{BoxPlan, HostPlan, LanePlan, no_box}
 use Rattle.ds_model.specs.World.{Process}
-use Rattle.ds_model.specs.ProcessStep.{Ask, Target, ask_outer, box_of, judge_box, label_of, message_of, send, send_away, send_here, send_rule, take_from, take_rule, target}
+use Rattle.ds_model.specs.ProcessStep.{Target, ask_outer, box_of, judge_box, label_of, message_of, send, send_away, send_here, send_rule, take_from, take_rule, target}
 use Rattle.ds_actor.specs.Sites.{IsSiteOf, lane_of as bare_lane, without_room, without_rooms, box_of as bare_box}
 use Rattle.ds_actor.proofs.Sites.{position_map}
-use Rattle.ds_exporter.specs.HostStates.{HostBox, HostLane, HostState}
+use Rattle.ds_exporter.specs.HostStates.{HostState}
 use Rattle.ds_exporter.specs.PlainHosts.{plan_of_box, plan_of_lane, site_of}
 use Rattle.ds_exporter.specs.Sites.{box_site, cert_of, fixed_in}
 

@@ -1,5 +1,5 @@
 -- A process of which the desk judges a message to another host.
-use Rattle.std.proofs.Common.{◌≡◌, ℕ, suc, ◌+◌, ◌<◌, ◌≤◌, List, Option, Some, None, length, slice_get, option_map, refl, sym, ap, ◌∙◌, subst}
+use Rattle.std.proofs.Common.{◌≡◌, ℕ, ◌<◌, ◌≤◌, List, Option, Some, None, length, slice_get, option_map, refl, sym, ap, ◌∙◌}
 use Rattle.std.specs.Prelude.{Result, Ok, Err}
 use Rattle.std.proofs.lemmas.Option.{slice_get-map}
 use Rattle.ds_label.specs.declared.rule.Rule.{Rule}
@@ -15,8 +15,8 @@ use Rattle.ds_desk.specs.Desks.{IsReplay, entered}
 use Rattle.ds_scheme.specs.TheScheme.{scheme}
 use Rattle.ds_exporter.specs.HostStates.{HostProcess, HostState}
 use Rattle.ds_exporter.specs.PlainHosts.{host_of, site_of, plain_process}
-use Rattle.ds_exporter.specs.Conditions.{HasLane, IsFit}
-use Rattle.ds_exporter.specs.Sending.{HasItsLane, IsSendVerdict, MaySend, judged_proc, send_rule, send_certs}
+use Rattle.ds_exporter.specs.Conditions.{IsFit}
+use Rattle.ds_exporter.specs.Sending.{IsSendVerdict, judged_proc, send_rule}
 use Rattle.ds_exporter.specs.Stamping.{IsBefore, IsUpTo, last_of_desk}
 use Rattle.ds_exporter.specs.Stepping.{Asks, IsFree, IsStepped, always, refused_proc}
 use Rattle.ds_exporter.proofs.Places.{there_is}

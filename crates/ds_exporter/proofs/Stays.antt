@@ -1,5 +1,5 @@
 -- A desk after an entry: whatever had a name in its table keeps it.
-use Rattle.std.proofs.Common.{◌≡◌, ℕ, zero, suc, ◌+◌, ◌<◌, ◌≤◌, Bool, true, false, ◌&&◌, cond, List, [], ◌∷◌, Option, Some, None, length, map, slice_get, refl, sym, ap, ◌∙◌, subst, arith}
+use Rattle.std.proofs.Common.{◌≡◌, ℕ, zero, suc, ◌≤◌, Bool, true, false, ◌&&◌, cond, List, [], ◌∷◌, Option, Some, None, map, refl, ap, ◌∙◌, arith}
 use Rattle.std.specs.Prelude.{All, IsTrue, get_or}
 use Rattle.std.specs.List.{list_all}
 use Rattle.ds_label.specs.declared.category.PubKey.{PubKey}
@@ -8,23 +8,22 @@ use Rattle.ds_script.specs.declared.actor.Actor.{Actor}
 use Rattle.ds_script.specs.declared.usable.Usable.{Usable}
 use Rattle.ds_cert.specs.declared.cert.Cert.TheVariants as certs
 use Rattle.ds_msg.specs.declared.local.LocalMessage.{LocalMessage}
-use Rattle.ds_model.specs.Mapping.{is_known, number_of, to_number}
+use Rattle.ds_model.specs.Mapping.{is_known, number_of}
 use Rattle.ds_model.specs.Desk.{Desk, DeskEntry, Ticked, Delegated, Imported, Mapped, Looked, Denied, desk_after}
 use Rattle.ds_model.specs.Mailbox.{PutIn, FoundFull}
 use Rattle.ds_model.specs.Plan.{BoxPlan}
-use Rattle.ds_model.specs.World.{Process, Mailbox, Conn, Passed}
+use Rattle.ds_model.specs.World.{Conn, Passed}
 use Rattle.ds_map.specs.Labels.{have_names, has_name, named}
 use Rattle.ds_map.specs.Growing.{IsGrown}
 use Rattle.ds_map.proofs.Growing.{grows_so}
-use Rattle.ds_map.proofs.Sets.{and_first, and_second}
+use Rattle.ds_map.proofs.Sets.{and_second}
 use Rattle.ds_desk.specs.Desks.{IsReplay, entered}
 use Rattle.ds_box.specs.declared.entry.BoxAct.{BoxAct}
 use Rattle.ds_box.specs.declared.entry.BoxAct.TheVariants.{Put, Full, Took}
-use Rattle.ds_box.specs.declared.entry.BoxEntry.{BoxEntry}
 use Rattle.ds_inlet.specs.Connections.{Connection}
 use Rattle.ds_inlet.specs.PlainConnections.{plain_conn}
 use Rattle.ds_exporter.specs.HostStates.{HostBox, HostProcess, HostState}
-use Rattle.ds_exporter.specs.PlainHosts.{category_of, conn_at, conn_of, host_of, no_conn, plain_act, plain_box, plain_entry, plain_mail, plain_passed, plain_process, plan_of_box, site_of}
+use Rattle.ds_exporter.specs.PlainHosts.{conn_at, conn_of, host_of, no_conn, plain_act, plain_box, plain_entry, plain_mail, plain_passed, plain_process, plan_of_box, site_of}
 use Rattle.ds_exporter.specs.Conditions.{AreNumbered, IsActNamed, IsBoxNamed, IsConnNamed, IsEntryNamed, IsFit, IsMailNamed, IsNumbered, IsPassedNamed, IsProcNamed, mail_labels, proc_labels}
 use Rattle.ds_exporter.specs.Stamping.{IsBefore, IsUpTo, last_of_desk}
 use Rattle.ds_exporter.proofs.Stamps.{all_more, below_desk}

@@ -1,5 +1,5 @@
 -- A process that takes a message from a mailbox of its host.
-use Rattle.std.proofs.Common.{◌≡◌, ℕ, zero, suc, ◌+◌, ◌<◌, List, [], ◌∷◌, ◌++◌, Option, Some, None, length, map, slice_get, option_map, refl, sym, ap, ◌∙◌, subst, arith}
+use Rattle.std.proofs.Common.{◌≡◌, ℕ, zero, suc, ◌+◌, ◌<◌, List, [], ◌∷◌, Option, Some, None, length, map, slice_get, option_map, refl, sym, ap, ◌∙◌, subst, arith}
 use Rattle.std.specs.Prelude.{All}
 use Rattle.std.proofs.lemmas.List.{map-append}
 use Rattle.std.proofs.lemmas.List.Elements.{All-append}
@@ -12,14 +12,14 @@ use Rattle.ds_script.proofs.Replays.{last_of-push}
 use Rattle.ds_msg.specs.declared.local.LocalMessage.{LocalMessage}
 use Rattle.ds_model.specs.Lists.{at}
 use Rattle.ds_model.specs.Mailbox.{TookOut, box_after, oldest, took, took_with}
-use Rattle.ds_model.specs.World.{Process, Host, Mail, Mailbox}
+use Rattle.ds_model.specs.World.{Mail, Mailbox}
 use Rattle.ds_model.specs.ProcessStep.{TakeFrom, taken_after_reply}
 use Rattle.ds_model.specs.Step.{oldest_in}
 use Rattle.ds_model.proofs.Places.{at_still}
 use Rattle.ds_map.specs.Table.{IsTable}
 use Rattle.ds_box.specs.Boxes.{entry_of, stamp_of}
 use Rattle.ds_exporter.specs.HostStates.{HostBox, HostProcess, HostState}
-use Rattle.ds_exporter.specs.PlainHosts.{host_of, site_of, plain_box, plain_entry, plain_mail, plain_process}
+use Rattle.ds_exporter.specs.PlainHosts.{host_of, plain_box, plain_entry, plain_mail, plain_process}
 use Rattle.ds_exporter.specs.Conditions.{IsBoxNamed, IsEntryNamed, IsFit, IsMailNamed, IsNumbered, IsProcNamed}
 use Rattle.ds_exporter.specs.Stamping.{IsBefore, IsBoxBefore, IsUpTo}
 use Rattle.ds_exporter.specs.Stepping.{Asks, IsFree, IsStepped, always, next_host}
@@ -27,7 +27,7 @@ use Rattle.ds_exporter.specs.Taking.{TakesSo, taken_box, took_proc}
 use Rattle.ds_exporter.proofs.Places.{all_get, map_over_at, some_is, there_is}
 use Rattle.ds_exporter.proofs.BoxPuts.{Keeps, below_box, fits_box, plan_box, with_box}
 use Rattle.ds_exporter.proofs.OneProc.{with_proc, fits_proc}
-use Rattle.ds_exporter.proofs.OneStep.{becomes, host_by, moved_on, no_hand_more, only, performs, seen, site_proc}
+use Rattle.ds_exporter.proofs.OneStep.{becomes, host_by, moved_on, no_hand_more, performs, site_proc}
 
 -- THE MAILBOX
 
@@ -134,7 +134,7 @@ module _ (e : HostState) (p i stamp reg slot : ℕ) (who : Actor) (m : LocalMess
       → plain_process e.desk.here e.desk.desk.rows (took_proc reg slot m x) ≡ taken_after_reply reg slot (oldest_in (slice_get (host_of e).boxes i)) (plain_process e.desk.here e.desk.desk.rows x)
   proc_taken x h = there_is (plain_process e.desk.here e.desk.desk.rows (took_proc reg slot m x) ≡ taken_after_reply reg slot (oldest_in (slice_get (host_of e).boxes i)) (plain_process e.desk.here e.desk.desk.rows x)) e.boxes i inside
       (λ b k. (takes x h).becomes e.desk.here e.desk.desk.rows table (all_get (IsProcNamed e.desk.here e.desk.desk.rows) e.procs p x fit.named_procs h) mail_named
-        ∙ ap (λ (o : Option (Mail Category)). taken_after_reply reg slot o (plain_process e.desk.here e.desk.desk.rows x)) (sym (oldest_here e i b k m (first b k))))
+      ∙ ap (λ (o : Option (Mail Category)). taken_after_reply reg slot o (plain_process e.desk.here e.desk.desk.rows x)) (sym (oldest_here e i b k m (first b k))))
 
   pub stepped_take : Asks p e (always (TakeFrom i reg slot)) → IsBefore stamp e → IsStepped stamp p e taken
   stepped_take asks below = there_is (IsStepped stamp p e taken) e.procs p within (λ x h. record {

@@ -1,6 +1,5 @@
 -- A process's public act, which its host's desk does.
-use Rattle.std.specs.Prelude.{◌≡◌, ◌<◌, ◌^◌, ◌+◌, ◌⊎◌, ℕ, List, None, Some, slice_get}
-use Rattle.ds_base.specs.Marks.{Raised, MayBeRaised}
+use Rattle.std.specs.Prelude.{◌≡◌, ◌<◌, ◌^◌, ℕ, List, None, Some, slice_get}
 use Rattle.ds_label.specs.declared.category.PubKey.{PubKey}
 use Rattle.ds_label.specs.declared.category.Category.{Category}
 use Rattle.ds_script.specs.declared.note.Note.TheVariants as notes

@@ -7,14 +7,14 @@ use Rattle.ds_model.specs.ProcessStep.{Waits, TakeFrom, PublicAct, AsksJudgement
 use Rattle.ds_actor.specs.declared.ask.ProcessAsk.{ProcessAsk}
 use Rattle.ds_actor.specs.declared.ask.ProcessAsk.TheVariants as asks
 use Rattle.ds_actor.specs.Sites.{SitePlan}
-use Rattle.ds_actor.specs.Asks.{IsCopied, act_of}
+use Rattle.ds_actor.specs.Asks.{act_of}
 use Rattle.ds_actor.specs.Asking.{IsAnswer}
 use Rattle.ds_exporter.specs.HostStates.{HostProcess, HostState}
 use Rattle.ds_exporter.specs.PlainHosts.{plain_mail}
 use Rattle.ds_exporter.specs.Conditions.{IsMailNamed}
 use Rattle.ds_exporter.specs.Acting.{IsRequestInRange}
 use Rattle.ds_exporter.specs.Stamping.{IsBefore}
-use Rattle.ds_exporter.specs.Stepping.{Asks, IsFree, IsStepped, admit_ask, always, put_ask}
+use Rattle.ds_exporter.specs.Stepping.{Asks, IsFree, IsStepped, always, put_ask}
 
 -- The process x at a place asked this, and is another one now where its step was inside it.
 pub record OuterAsks (site : SitePlan) (index p : ℕ) (x : HostProcess) (before after : List HostProcess) (a : ProcessAsk) : Type 0 where

@@ -101,7 +101,11 @@ impl Exporter {
             index,
         };
         reserve_proc(&mut self.parts.procs, index as usize)?;
-        match self.parts.desk.delegate(stamp, who, keeper, category, to, from, until) {
+        match self
+            .parts
+            .desk
+            .delegate(stamp, who, keeper, category, to, from, until)
+        {
             Ok(bytes) => {
                 delegated_at(
                     &mut self.parts.procs,
@@ -172,12 +176,7 @@ impl Exporter {
         reserve_proc(&mut self.parts.procs, index as usize)?;
         match self.parts.desk.map_foreign(stamp, who, category) {
             Ok(number) => {
-                mapped_at(
-                    &mut self.parts.procs,
-                    index as usize,
-                    category,
-                    number,
-                );
+                mapped_at(&mut self.parts.procs, index as usize, category, number);
                 Ok(())
             }
             Err(EntryFault::Refused(rule)) => {
@@ -218,17 +217,7 @@ impl Exporter {
                 from,
                 until,
             } => {
-                self.delegate(
-                    stamp,
-                    index,
-                    category,
-                    to,
-                    from,
-                    until,
-                    reg,
-                    host,
-                    keeper,
-                )?;
+                self.delegate(stamp, index, category, to, from, until, reg, host, keeper)?;
                 Ok(())
             }
             DeskRequest::Importing(bytes) => {

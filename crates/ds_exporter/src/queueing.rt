@@ -143,11 +143,7 @@ pub(crate) fn has_hand(procs: &ProcList, place: usize) -> bool
 }
 
 /// What the process at a place asks, which has a message in hand.
-fn hand_ask(
-    procs: &ProcList,
-    place: usize,
-    site: &HostSite,
-) -> Result<ProcessAsk, AllocError>
+fn hand_ask(procs: &ProcList, place: usize, site: &HostSite) -> Result<ProcessAsk, AllocError>
     requires place { place < length procs.now.items }
     requires hand { (x : HostProcess) → slice_get (map process_of procs.now.items) place ≡ Some x → is_some x.hand ≡ true }
     ensures { IfOk result (λ a. (x : HostProcess) → slice_get (map process_of procs.now.items) place ≡ Some x → HandAsks (seen_of site.now) x a) }

@@ -101,12 +101,7 @@ fn hold_at(procs: &mut ProcList, place: usize, message: Message, certs: CertByte
 }
 
 /// The process at a place, after its message was judged. It takes no memory.
-fn judged_at(
-    procs: &mut ProcList,
-    place: usize,
-    message: Message,
-    verdict: Result<CertBytes, Rule>,
-)
+fn judged_at(procs: &mut ProcList, place: usize, message: Message, verdict: Result<CertBytes, Rule>)
     requires place { place < length procs.old.items }
     requires ready { IsReadyAt place procs.old.items }
     ensures { map process_of procs.new.items ≡ at place (judged_proc message verdict) (map process_of procs.old.items) }
@@ -143,12 +138,7 @@ impl Exporter {
         self.parts.desk.reserve()?;
         reserve_proc(&mut self.parts.procs, index as usize)?;
         let verdict = judge_message(&self.parts.desk, &self.parts.lanes, &message)?;
-        judged_at(
-            &mut self.parts.procs,
-            index as usize,
-            message,
-            verdict,
-        );
+        judged_at(&mut self.parts.procs, index as usize, message, verdict);
         self.parts.desk.look(stamp, who);
         Ok(())
     }

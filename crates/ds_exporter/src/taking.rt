@@ -24,12 +24,7 @@ use std::alloc::AllocError;
 
 /// Takes the oldest message of the mailbox at a place; where none waits nothing changed. It takes no memory.
 #[tactic(auto, using(crate::proofs::Places::map_at_here, crate::proofs::Places::map_same))]
-fn take_at(
-    boxes: &mut BoxList,
-    place: usize,
-    stamp: u64,
-    who: Actor,
-) -> Result<LocalMessage, Empty>
+fn take_at(boxes: &mut BoxList, place: usize, stamp: u64, who: Actor) -> Result<LocalMessage, Empty>
     requires place { place < length boxes.old.items }
     requires room { HasSpareAt place boxes.old.items }
     requires later { All (IsBoxBefore stamp) (map box_of boxes.old.items) }
@@ -87,13 +82,7 @@ impl Exporter {
         reserve_box(&mut self.parts.boxes, place)?;
         match take_at(&mut self.parts.boxes, place, stamp, who) {
             Ok(message) => {
-                took_at(
-                    &mut self.parts.procs,
-                    index as usize,
-                    reg,
-                    slot,
-                    message,
-                );
+                took_at(&mut self.parts.procs, index as usize, reg, slot, message);
                 Ok(Moved::Changed)
             }
             Err(_empty) => Ok(Moved::Still),

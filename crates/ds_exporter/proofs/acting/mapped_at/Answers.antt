@@ -23,5 +23,5 @@ returns-clause-maps c =
     let there = stands_now process_of c.args.procs.now.items c.args.place c.index_mut.result.now c.requires.place c.index_mut.ensures.value in
     let maps : MapsSo c.args.category c.args.number now = λ here rows reg host.
     subst (λ (p : Process). plain_process here rows (record { process = p; hand = now.hand }) ≡ act_after_reply reg host (Mapping c.args.category) (Local c.args.number) (plain_process here rows now))
-        c.mapped.ensures.process (c.mapped.ensures.becomes here rows now.hand reg host) in
+    c.mapped.ensures.process (c.mapped.ensures.becomes here rows now.hand reg host) in
     λ x h. subst (λ (y : HostProcess). MapsSo c.args.category c.args.number y) (some_is now x (sym there ∙ h)) maps

@@ -39,4 +39,4 @@ returns-clause-asked c =
       };
     } in
     λ x h. subst (λ (y : HostProcess). OuterAsks (seen_of c.args.site.now) c.args.index c.args.place y (map process_of c.args.procs.now.items) (map process_of (slice_set c.args.procs.now.items c.args.place part)) c.in_ok-ask.ask)
-        (some_is now x (sym there ∙ h)) asked
+    (some_is now x (sym there ∙ h)) asked

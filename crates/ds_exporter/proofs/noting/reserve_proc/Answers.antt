@@ -1,4 +1,4 @@
-use Rattle.std.proofs.Common.{◌≡◌, ◌<◌, length, sym, subst, ◌∙◌, arith}
+use Rattle.std.proofs.Common.{◌<◌, length, sym, subst, ◌∙◌, arith}
 use Rattle.ds_script.specs.Process.{Process}
 use Rattle.ds_actor.specs.Asking.{CanEnd}
 use Rattle.ds_exporter.specs.declared.parts.ProcPart.{ProcPart}

@@ -8,7 +8,7 @@ use Rattle.ds_exporter.proofs.sending.number_for.Goals as goal
 pub unreachable-requires : goal.unreachable-requires
 unreachable-requires c =
     there_is ⊥ (map lane_of c.args.lanes.now.items) c.in_ok-place.place (inside_lanes c.args.lanes.now.items c.in_ok-place.place c.in_ok-place.ensures.within) (λ l h.
-        true_false c.goes_onto.result (c.goes_onto.ensures.test l h ∙ found_goes (map lane_of c.args.lanes.now.items) c.args.message.now c.in_ok-place.place (sym c.in_ok-place.ensures.place) l h) c.if-not-goes_onto.true)
+    true_false c.goes_onto.result (c.goes_onto.ensures.test l h ∙ found_goes (map lane_of c.args.lanes.now.items) c.args.message.now c.in_ok-place.place (sym c.in_ok-place.ensures.place) l h) c.if-not-goes_onto.true)
 
 pub returns : goal.returns
 returns c =

@@ -1,4 +1,4 @@
-use Rattle.std.proofs.Common.{◌≡◌, ◌<◌, length, map, ap, ◌∙◌}
+use Rattle.std.proofs.Common.{◌≡◌, length, map, ap, ◌∙◌}
 use Rattle.ds_map.proofs.Sets.{true_false}
 use Rattle.ds_script.specs.declared.actor.Actor.{Actor}
 use Rattle.ds_model.specs.Lists.{at}
@@ -18,7 +18,7 @@ unreachable-requires c =
     let inside = rw (← c.self.view_is) at c.requires.lane in
     let asks = rw (← c.self.view_is) at c.requires.asks in
     there_is ⊥ e.lanes c.args.lane inside (λ y h. true_false c.goes_onto.result
-        (c.goes_onto.ensures.test y h ∙ goes_there e c.args.index c.args.lane c.args.message within (λ x k. some x k) (λ x k. asks x k) y h) c.if-not-goes_onto.true)
+    (c.goes_onto.ensures.test y h ∙ goes_there e c.args.index c.args.lane c.args.message within (λ x k. some x k) (λ x k. asks x k) y h) c.if-not-goes_onto.true)
 
 pub reserve_proc-requires-clause-going : goal.reserve_proc-requires-clause-going
 reserve_proc-requires-clause-going c =

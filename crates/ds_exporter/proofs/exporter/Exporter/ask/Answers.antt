@@ -1,8 +1,8 @@
-use Rattle.std.proofs.Common.{◌≡◌, map, subst}
+use Rattle.std.proofs.Common.{map, subst}
 use Rattle.std.proofs.lemmas.List.Elements.{recursion_from_All}
 use Rattle.ds_label.specs.declared.category.PubKey.{PubKey}
 use Rattle.ds_map.specs.Table.{IsTable}
-use Rattle.ds_exporter.specs.HostStates.{HostState, process_of, state_of}
+use Rattle.ds_exporter.specs.HostStates.{process_of, state_of}
 use Rattle.ds_exporter.specs.Conditions.{AreNumbered, IsFit, IsNumbered}
 use Rattle.ds_exporter.specs.Asking.{AsksSo, IsFreeFor, IsInRange, IsSameUnless}
 use Rattle.ds_exporter.proofs.Places.{all_get, there_is}

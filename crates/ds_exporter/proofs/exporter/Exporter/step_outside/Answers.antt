@@ -1,6 +1,4 @@
 use Rattle.std.proofs.Common.{◌≡◌, ◌<◌, length, sym, subst}
-use Rattle.ds_actor.specs.declared.ask.ProcessAsk.{ProcessAsk}
-use Rattle.ds_actor.specs.declared.ask.ProcessAsk.TheVariants as asks
 use Rattle.ds_exporter.specs.HostStates.{HostState}
 use Rattle.ds_exporter.specs.PlainHosts.{host_of}
 use Rattle.ds_exporter.specs.Asking.{AsksSo, IsSameUnless}
