@@ -1,9 +1,7 @@
 -- What a connection becomes that accepts.
 use Rattle.std.proofs.Common.{inl, inr, ◌≡◌, ℕ, suc, Bool, true, false, List, [], ◌∷◌, Option, Some, None, map, slice_get, refl, sym, ap, ◌∙◌, subst, arith}
-use Rattle.std.specs.Prelude.{◌<◌, ◌⊎◌, nat_lt, option_map, length, is_some, ◌==◌, ◌&&◌, Result, Ok, Err, if◌then◌else◌}
-use Rattle.std.proofs.lemmas.List.{length-map}
+use Rattle.std.specs.Prelude.{nat_lt, option_map, is_some, Result, Ok, Err, if◌then◌else◌}
 use Rattle.std.proofs.lemmas.Option.{slice_get-map}
-use Rattle.std.proofs.lemmas.List.Quantifiers.{position-Some}
 use Rattle.ds_label.specs.declared.category.PubKey.{PubKey}
 use Rattle.ds_label.specs.declared.category.Category.{Category}
 use Rattle.ds_script.specs.declared.actor.Actor.{Actor}
@@ -16,9 +14,8 @@ use Rattle.ds_frame.specs.declared.item.ReadEnd.{ReadEnd}
 use Rattle.ds_frame.specs.declared.item.ReadEnd.TheVariants as ends
 use Rattle.ds_frame.specs.Fields.{ReadFault, Open, Broken}
 use Rattle.ds_model.specs.Lists.{at}
-use Rattle.ds_model.specs.Keys.{same_key}
 use Rattle.ds_model.specs.Scheme.{Scheme, InletName, Item, Hello, Framed, Failure as PlainFailure}
-use Rattle.ds_model.specs.Plan.{HostPlan, no_inlet}
+use Rattle.ds_model.specs.Plan.{HostPlan}
 use Rattle.ds_model.specs.World.{Conn, Host, Passed}
 use Rattle.ds_model.specs.Inlet.{is_fresh, numbered}
 use Rattle.ds_model.specs.ConnectionStep.{ConnAsk, ConnWaits, ConnInternal, AsksInlet, peer, inlet_of, take_frame, frame_from, fail, accept_item, accept_free, accept}
@@ -32,11 +29,8 @@ use Rattle.ds_inlet.specs.Connections.{Connection, ReadStep, Reads, read_step, r
 use Rattle.ds_inlet.specs.PlainConnections.{plain_conn}
 use Rattle.ds_inlet.specs.Accepting.{Accepts, FailsOnce, inlet_plan, inlet_scheme}
 use Rattle.ds_scheme.specs.TheScheme.{scheme}
-use Rattle.ds_exporter.specs.declared.moved.Moved.{Moved}
 use Rattle.ds_exporter.specs.declared.moved.Moved.TheVariants.{Still, Changed}
-use Rattle.ds_exporter.specs.Moving.{Moves}
-use Rattle.ds_exporter.specs.PlainHosts.{name_of_inlet, plain_inlet, plain_passed, conn_of}
-use Rattle.ds_exporter.specs.Conditions.{HasHelloFirst}
+use Rattle.ds_exporter.specs.PlainHosts.{plain_inlet, plain_passed, conn_of}
 use Rattle.ds_exporter.specs.Accepting.{Accepted, KeepsPassed, IsNext, counted, met}
 use Rattle.ds_exporter.proofs.Places.{map_over_at}
 
@@ -304,21 +298,6 @@ module _ (stamp : ℕ) (k m : Connection) (inlets : List CountedLane) (none : k.
       let f = read_facts k (Err ends.NotYet) m reads in
       record { accepted = accepts_waits k m inlets none (λ plan link. says scheme plan link) f.answer; keeps = keeps_read k m (Err ends.NotYet) f; counts = inl refl; still = λ s. (f.answer, refl) }
 
-  pub next_failed : (cause : Cause) (place : ℕ) → is_some k.reader.failure ≡ true → Reads k (Err (ends.BadFrame cause place)) m → Says (Err (ends.BadFrame cause place)) → IsNext Still stamp k m inlets inlets
-  next_failed cause place failed reads says = go k.reader.failure refl failed
-    where
-      go : (o : Option Failure) → k.reader.failure ≡ o → is_some o ≡ true → IsNext Still stamp k m inlets inlets
-      go None is t = absurd cc
-      go (Some failure) is t =
-          let f = read_facts k (Err (ends.BadFrame cause place)) m reads in
-          let same = f.answer failure is in
-          record {
-            accepted = accepts_waits k m inlets none (λ plan link. subst (λ (o : Option Failure). FailsOnce link o m (accept scheme (inlet_plan plan k) (plain_conn link None k) k.arrived)) is (says scheme plan link)) same;
-            keeps = keeps_read k m (Err (ends.BadFrame cause place)) f;
-            counts = inl refl;
-            still = λ s. (same, refl);
-          }
-
   pub next_fails : (cause : Cause) (place : ℕ) → is_some k.reader.failure ≡ false → Reads k (Err (ends.BadFrame cause place)) m → Says (Err (ends.BadFrame cause place)) → IsNext Changed stamp k m inlets inlets
   next_fails cause place fine reads says = go k.reader.failure refl fine
     where
@@ -332,23 +311,6 @@ module _ (stamp : ℕ) (k m : Connection) (inlets : List CountedLane) (none : k.
             counts = inl refl;
             still = λ s. absurd cc;
           }
-
--- the inlet of a lane is one of the inlets
-pub inlet_within : (names : List InletName) (lane : Option LaneCert) (place : ℕ) → lane_inlet_of names lane ≡ Some place → place < length names
-inlet_within names None place e = absurd cc
-inlet_within names (Some lane) place e = (position-Some (λ (i : InletName). same_key i.exporter lane.exporter && (i.lane == lane.lane)) names place no_inlet e).0
-
--- of the inlets whose names a connection has
-pub place_within : (k m : Connection) (r : Result Offer ReadEnd) (inlets : List CountedLane) (place : ℕ) → Reads k r m → k.inlets ≡ map name_of_inlet inlets → lane_inlet_of m.inlets m.reader.lane ≡ Some place → place < length inlets
-place_within k m r inlets place reads names there =
-    let f = read_facts k r m reads in
-    subst (λ (n : ℕ). place < n) (ap length (f.inlets ∙ names) ∙ length-map inlets name_of_inlet) (inlet_within m.inlets m.reader.lane place there)
-
--- the inlet of a frame was known before it was read
-pub inlet_known : (k m : Connection) (place number : ℕ) → Reads k (Ok (offers.Frame place number)) m → lane_inlet_of m.inlets m.reader.lane ≡ Some place → lane_inlet_of k.inlets k.reader.lane ≡ Some place
-inlet_known k m place number reads there =
-    let f = read_facts k (Ok (offers.Frame place number)) m reads in
-    subst (λ (lane : Option LaneCert). lane_inlet_of k.inlets lane ≡ Some place) f.answer (subst (λ (names : List InletName). lane_inlet_of names m.reader.lane ≡ Some place) f.inlets there)
 
 -- what an inlet's call says of a number
 pub fresh_at : (number : ℕ) (inlets : List CountedLane) (place : ℕ) (i : CountedLane) → slice_get inlets place ≡ Some i → is_fresh number i.number ≡ true → true ≡ fresh_in number (slice_get (map plain_inlet inlets) place)
@@ -374,19 +336,5 @@ module _ (stamp : ℕ) (k m : Connection) (inlets : List CountedLane) (none : k.
   pub open_is : (end : ReadEnd) → end ≡ ends.NotYet → Reads k (Err end) m → Says stamp k m inlets none (Err end) → IsNext Still stamp k m inlets inlets
   open_is end is reads says = next_open stamp k m inlets none (subst (λ (o : ReadEnd). Reads k (Err o) m) is reads) (subst (λ (o : ReadEnd). Says stamp k m inlets none (Err o)) is says)
 
-  pub failed_is : (end : ReadEnd) (cause : Cause) (place : ℕ) → end ≡ ends.BadFrame cause place → is_some k.reader.failure ≡ true → Reads k (Err end) m → Says stamp k m inlets none (Err end) → IsNext Still stamp k m inlets inlets
-  failed_is end cause place is failed reads says = next_failed stamp k m inlets none cause place failed (subst (λ (o : ReadEnd). Reads k (Err o) m) is reads) (subst (λ (o : ReadEnd). Says stamp k m inlets none (Err o)) is says)
-
   pub fails_is : (end : ReadEnd) (cause : Cause) (place : ℕ) → end ≡ ends.BadFrame cause place → is_some k.reader.failure ≡ false → Reads k (Err end) m → Says stamp k m inlets none (Err end) → IsNext Changed stamp k m inlets inlets
   fails_is end cause place is fine reads says = next_fails stamp k m inlets none cause place fine (subst (λ (o : ReadEnd). Reads k (Err o) m) is reads) (subst (λ (o : ReadEnd). Says stamp k m inlets none (Err o)) is says)
-
--- and of the inlet of a frame
-module _ (k m : Connection) (offer : Offer) (place number : ℕ) (is : offer ≡ offers.Frame place number) (reads : Reads k (Ok offer) m) (for : IsForLane offer (lane_inlet_of m.inlets m.reader.lane)) where
-  there : lane_inlet_of m.inlets m.reader.lane ≡ Some place
-  there = subst (λ (o : Offer). IsForLane o (lane_inlet_of m.inlets m.reader.lane)) is for
-
-  pub frame_known : lane_inlet_of k.inlets k.reader.lane ≡ Some place
-  frame_known = inlet_known k m place number (subst (λ (o : Offer). Reads k (Ok o) m) is reads) there
-
-  pub frame_within : (inlets : List CountedLane) → k.inlets ≡ map name_of_inlet inlets → place < length inlets
-  frame_within inlets names = place_within k m (Ok offer) inlets place reads names there

@@ -1,5 +1,5 @@
 -- What the desk's judgement of a worker's hand does to a lane.
-use Rattle.std.proofs.Common.{◌≡◌, ℕ, suc, ◌+◌, List, [], ◌∷◌, ◌++◌, Option, Some, None, length, map, refl, sym, ap, ◌∙◌, subst, arith}
+use Rattle.std.proofs.Common.{◌≡◌, ℕ, suc, ◌+◌, List, [], ◌∷◌, ◌++◌, Option, Some, None, length, map, refl, sym, ap, ◌∙◌, arith}
 use Rattle.std.specs.Prelude.{All}
 use Rattle.std.proofs.lemmas.List.{append-nil, length-map}
 use Rattle.ds_label.specs.declared.rule.Rule.{Rule}
@@ -10,7 +10,7 @@ use Rattle.ds_msg.specs.declared.message.Message.{Message}
 use Rattle.ds_model.specs.Desk.{Desk}
 use Rattle.ds_model.specs.ExporterRules.{sender_rule}
 use Rattle.ds_model.specs.World.{LaneLine, FramedLine, DroppedLine, Waiting as PlainWaiting}
-use Rattle.ds_model.specs.WorkerStep.{frame_rule, unless_fails, still_good, rechecked, with_frame, checked_after_reply, dropped_line, dropped_lines, framed_line, checked_lines}
+use Rattle.ds_model.specs.WorkerStep.{frame_rule, still_good, rechecked, with_frame, checked_after_reply, dropped_lines, framed_line, checked_lines}
 use Rattle.ds_desk.specs.Signing.{signing_of}
 use Rattle.ds_lane.specs.declared.batch.Waiting.{Waiting}
 use Rattle.ds_lane.specs.Lanes.{WaitsOn}

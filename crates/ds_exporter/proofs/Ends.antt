@@ -1,15 +1,14 @@
 -- A change of one connection and of its host's inlets.
-use Rattle.std.proofs.Common.{◌≡◌, ℕ, ◌+◌, ◌<◌, List, ◌∷◌, ◌++◌, [], Some, length, map, slice_get, option_map, refl, sym, ap, ◌∙◌, subst, arith, inl, inr}
+use Rattle.std.proofs.Common.{◌≡◌, ℕ, ◌+◌, ◌<◌, List, Some, length, map, slice_get, option_map, refl, sym, ap, ◌∙◌, subst, arith, inl, inr}
 use Rattle.std.specs.Prelude.{◌≢◌, All, AllPairs}
 use Rattle.ds_script.specs.declared.actor.Actor.{Actor}
 use Rattle.ds_script.proofs.Replays.{last_of-push}
 use Rattle.ds_model.specs.Lists.{at}
 use Rattle.ds_model.specs.Scheme.{InletName}
-use Rattle.ds_model.specs.Plan.{HostPlan}
 use Rattle.ds_model.specs.World.{Conn}
 use Rattle.ds_model.specs.Inlet.{number_entry}
 use Rattle.ds_model.specs.ConnectionStep.{accept}
-use Rattle.ds_model.specs.Step.{HostAndConn, perform_conn}
+use Rattle.ds_model.specs.Step.{perform_conn}
 use Rattle.ds_model.proofs.Places.{at_here, at_other, at_still}
 use Rattle.ds_inlet.specs.Inlets.{CountedLane, entry_of, stamp_of}
 use Rattle.ds_inlet.specs.Connections.{Connection}

@@ -14,3 +14,8 @@ pub mod CheckedHosts
 pub mod Runs
 pub mod OneProc
 pub mod Queues
+pub mod BoxPuts
+pub mod DeliverAsks
+pub mod DeliverPuts
+pub mod DeliverJudges
+pub mod DeliverVerdicts

@@ -9,3 +9,5 @@ pub mod Checking
 pub mod Running
 pub mod Queueing
 pub mod Accepting
+pub mod Mailboxes
+pub mod Delivering

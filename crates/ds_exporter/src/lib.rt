@@ -5,11 +5,15 @@
 mod accepting;
 mod arriving;
 mod checking;
+mod delivering;
 mod exporter;
+mod finding;
 mod framing;
+mod judging;
 mod lifting;
 mod moved;
 mod parts;
+mod posting;
 mod queueing;
 mod running;
 mod ticking;

@@ -1,7 +1,4 @@
-use Rattle.std.proofs.Common.{◌≡◌, map, slice_get, sym, ap, ◌∙◌}
-use Rattle.std.proofs.lemmas.Option.{slice_get-map}
-use Rattle.ds_model.specs.Inlet.{Inlet}
-use Rattle.ds_model.specs.Step.{fresh_in}
+use Rattle.std.proofs.Common.{map}
 use Rattle.ds_exporter.specs.HostStates.{inlet_of}
 use Rattle.ds_exporter.specs.Stamping.{IsInletBefore}
 use Rattle.ds_exporter.proofs.Accepts.{fresh_at, stale_at}
