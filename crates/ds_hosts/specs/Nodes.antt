@@ -38,6 +38,11 @@ abbrev pub conns_of : NodeState → List Connection
 conns_of (Running e) = e.conns
 conns_of (Silent conns) = conns
 
+-- with other connections
+abbrev pub with_conns : List Connection → NodeState → NodeState
+with_conns conns (Running e) = Running (record e { conns = conns })
+with_conns conns (Silent before) = Silent conns
+
 -- the connection at a place, whose link's stream is this one; of a silent host's none has a message
 abbrev pub conn_in : (link : List ℕ) → (place : ℕ) → NodeState → Conn
 conn_in link place (Running e) = conn_at link place e

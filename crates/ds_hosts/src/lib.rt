@@ -2,7 +2,12 @@
 //! of the host, and is the plain world's step for it.
 #![tactic(auto)]
 
+mod accepting;
+mod arriving;
+mod delivering;
 mod framing;
 mod node;
+mod reading;
+mod ticking;
 
 pub use node::{Node, NodeList};
