@@ -3,9 +3,10 @@
 use crate::route::RouteList;
 use ds_hosts::NodeList;
 use ds_plan::Doc;
+use ds_wire::Bytes;
 
 /// The streams of links, by the connections' numbers; nothing stands where a connection reads a lane.
-pub type LinkList = Vec<Vec<u8>>;
+pub type LinkList = Vec<Bytes>;
 
 /// All that a world is made of.
 #[derive(Drop)]

@@ -1,7 +1,7 @@
 //! Events of one host alone.
 #![tactic(auto)]
 
-ghost use Rattle.std.specs.Prelude.{◌≡◌, ◌-◌, ◌+◌, ◌<◌, ℕ, Some, length, map, slice_get, OnErr, IfOk};
+ghost use Rattle.std.specs.Prelude.{◌≡◌, ◌-◌, ◌+◌, ◌<◌, ◌^◌, ℕ, Some, length, map, slice_get, OnErr, IfOk};
 ghost use Rattle.ds_model.specs.Plan.{HostPlan};
 ghost use Rattle.ds_model.specs.World.{Host};
 ghost use Rattle.ds_model.specs.Step.{step_lane, ticked, Frame, Tick};
