@@ -11,7 +11,7 @@ use Rattle.ds_setup.specs.Lists.{each}
 use Rattle.ds_setup.proofs.Places.{each_at, from_each}
 use Rattle.ds_world.specs.declared.route.Feed.TheVariants as feeds
 use Rattle.ds_world.specs.declared.route.Route.{Route}
-use Rattle.ds_world.specs.Worlds.{count_to, feed_of, route_at, routes_by}
+use Rattle.ds_world.specs.Worlds.{count_to, feed_of, leads_to, route_at, routes_by}
 
 -- two lists are one where they have the same at each place
 pub same_lists : {X : Type 0} (xs ys : List X) → ((i : ℕ) → slice_get xs i ≡ slice_get ys i) → xs ≡ ys
@@ -20,7 +20,7 @@ same_lists [] (y ∷ ys) f = absurd (none-some y (f 0))
 same_lists (x ∷ xs) [] f = absurd (none-some x (sym (f 0)))
 same_lists (x ∷ xs) (y ∷ ys) f = λ i. some_is x y (f 0) i ∷ same_lists xs ys (λ k. f (suc k)) i
 
-hit : (host : ℕ) (c : ConnPlan) → c.host ≡ host → (if c.host == host then 1 else 0) ≡ 1
+hit : (host : ℕ) (c : ConnPlan) → c.host ≡ host → leads_to host c ≡ 1
 hit host c e = cond-true (c.host == host) 1 0 (grind (arith, nat_tests))
 
 -- each connection to a host counts
@@ -28,7 +28,7 @@ pub one_more : (host : ℕ) (cs : List ConnPlan) (k j : ℕ) (c : ConnPlan) → 
 one_more host [] k j c e h lt = absurd (none-some c e)
 one_more host (d ∷ cs) k zero c e h lt = absurd (omega (arith, lt))
 one_more host (d ∷ cs) zero (suc j) c e h lt =
-    let one : (if d.host == host then 1 else 0) ≡ 1 = hit host d (ap (λ (x : ConnPlan). x.host) (some_is d c e) ∙ h) in
+    let one : leads_to host d ≡ 1 = hit host d (ap (λ (x : ConnPlan). x.host) (some_is d c e) ∙ h) in
     omega (arith, one)
 one_more host (d ∷ cs) (suc k) (suc j) c e h lt =
     let rest : count_to host (take k cs) + 1 ≤ count_to host (take j cs) = one_more host cs k j c e h (omega (arith, lt)) in
@@ -37,7 +37,7 @@ one_more host (d ∷ cs) (suc k) (suc j) c e h lt =
 pub within_all : (host : ℕ) (cs : List ConnPlan) (k : ℕ) (c : ConnPlan) → slice_get cs k ≡ Some c → c.host ≡ host → count_to host (take k cs) < count_to host cs
 within_all host [] k c e h = absurd (none-some c e)
 within_all host (d ∷ cs) zero c e h =
-    let one : (if d.host == host then 1 else 0) ≡ 1 = hit host d (ap (λ (x : ConnPlan). x.host) (some_is d c e) ∙ h) in
+    let one : leads_to host d ≡ 1 = hit host d (ap (λ (x : ConnPlan). x.host) (some_is d c e) ∙ h) in
     omega (arith, one)
 within_all host (d ∷ cs) (suc k) c e h =
     let rest : count_to host (take k cs) < count_to host cs = within_all host cs k c e h in
@@ -55,7 +55,7 @@ two_counts host cs k j c d hc hd c-is d-is apart same = go (dec_lt k j)
 -- OF A ROUTE
 
 module _ (cs : List ConnPlan) (k : ℕ) (r : Route) (stands : slice_get (routes_by cs) k ≡ Some r) where
-  pub route_conn : ConnPlan
+  abbrev pub route_conn : ConnPlan
   route_conn = (from_each (route_at cs) cs k r stands).0
 
   pub route_there : slice_get cs k ≡ Some route_conn

@@ -15,9 +15,12 @@ use Rattle.ds_world.specs.declared.route.Route.{Route}
 -- WHERE CONNECTIONS LEAD
 
 -- how many of these connections lead to a host
+abbrev pub leads_to : (host : ℕ) → ConnPlan → ℕ
+leads_to host c = if c.host == host then 1 else 0
+
 abbrev pub count_to : (host : ℕ) → List ConnPlan → ℕ
 count_to host [] = 0
-count_to host (c ∷ conns) = (if c.host == host then 1 else 0) + count_to host conns
+count_to host (c ∷ conns) = leads_to host c + count_to host conns
 
 abbrev pub feed_of : Source → Feed
 feed_of Link = feeds.Link

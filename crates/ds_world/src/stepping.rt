@@ -48,7 +48,7 @@ pub(crate) fn frame(
     requires fit { IsFit parts.old }
     requires more { parts.old.count + 1 < 2 ^ 64 }
     ensures ok { IfOk result (λ moved. IsAfter moved (Frame host (lane - 1)) (state_of parts.old) (counted parts.old.count (state_of parts.new))) }
-    ensures fit { IfOk result (λ moved. parts.new.routes ≡ parts.old.routes) }
+    ensures routes { IfOk result (λ moved. parts.new.routes ≡ parts.old.routes) }
     ensures err { OnErr result (state_of parts.new ≡ state_of parts.old) }
 {
     let host = host as usize;
@@ -63,7 +63,7 @@ pub(crate) fn tick(parts: &mut WorldParts, host: u32, to: u64) -> Result<Moved, 
     requires fit { IsFit parts.old }
     requires more { parts.old.count + 1 < 2 ^ 64 }
     ensures ok { IfOk result (λ moved. IsAfter moved (Tick host to) (state_of parts.old) (counted parts.old.count (state_of parts.new))) }
-    ensures fit { IfOk result (λ moved. parts.new.routes ≡ parts.old.routes) }
+    ensures routes { IfOk result (λ moved. parts.new.routes ≡ parts.old.routes) }
     ensures err { OnErr result (state_of parts.new ≡ state_of parts.old) }
 {
     let host = host as usize;
