@@ -18,4 +18,15 @@ pub mod BoxPuts
 pub mod DeliverAsks
 pub mod DeliverPuts
 pub mod DeliverJudges
+pub mod OneStep
+pub mod PutSteps
+pub mod TakeSteps
+pub mod Stays
 pub mod DeliverVerdicts
+pub mod QueueSteps
+pub mod SiteParts
+pub mod SendSteps
+pub mod Verdicts
+pub mod ActSteps
+pub mod Rooms
+pub mod OuterSteps

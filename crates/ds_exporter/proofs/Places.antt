@@ -117,3 +117,9 @@ pub set_stands : {X : Type 0} (xs : List X) (i : ℕ) (new : X) → i < length x
 set_stands [] i new w = absurd (omega (arith, w))
 set_stands (x ∷ xs) zero new w = refl
 set_stands (x ∷ xs) (suc i) new w = set_stands xs i new (omega (arith, w))
+
+-- what is read at a place stands there
+pub there_now : {X : Type 0} (xs : List X) (i : ℕ) (now : X) → i < length xs → now ≡ slice_index_or xs i now → slice_get xs i ≡ Some now
+there_now [] i now w e = absurd (omega (arith, w))
+there_now (x ∷ xs) zero now w e = ap (λ y. Some y) (sym e)
+there_now (x ∷ xs) (suc i) now w e = there_now xs i now (omega (arith, w)) e

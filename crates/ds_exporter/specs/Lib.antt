@@ -11,3 +11,9 @@ pub mod Queueing
 pub mod Accepting
 pub mod Mailboxes
 pub mod Delivering
+pub mod Stepping
+pub mod Sites
+pub mod Taking
+pub mod Sending
+pub mod Acting
+pub mod Asking

@@ -3,7 +3,9 @@
 #![tactic(auto)]
 
 mod accepting;
+mod acting;
 mod arriving;
+mod asking;
 mod checking;
 mod delivering;
 mod exporter;
@@ -12,10 +14,17 @@ mod framing;
 mod judging;
 mod lifting;
 mod moved;
+mod noting;
 mod parts;
 mod posting;
+mod putting;
 mod queueing;
+mod refusing;
 mod running;
+mod sending;
+mod site;
+mod stepping;
+mod taking;
 mod ticking;
 
 pub use exporter::Exporter;

@@ -20,7 +20,7 @@ use std::alloc::AllocError;
 
 /// Makes room for a message in the mailbox at a place.
 #[tactic(auto, using(crate::proofs::Places::map_same))]
-fn reserve_box(boxes: &mut BoxList, place: usize) -> Result<(), AllocError>
+pub(crate) fn reserve_box(boxes: &mut BoxList, place: usize) -> Result<(), AllocError>
     requires { place < length boxes.old.items }
     ensures same { map box_of boxes.new.items ≡ map box_of boxes.old.items }
     ensures room { OnOk result (HasSpareAt place boxes.new.items) }
@@ -31,7 +31,7 @@ fn reserve_box(boxes: &mut BoxList, place: usize) -> Result<(), AllocError>
 
 /// A message comes to the mailbox at a place. It takes no memory.
 #[tactic(auto, using(crate::proofs::Places::map_at_here))]
-fn put_at(
+pub(crate) fn put_at(
     boxes: &mut BoxList,
     place: usize,
     stamp: u64,
