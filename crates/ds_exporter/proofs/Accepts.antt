@@ -190,6 +190,7 @@ pub record ReadFacts (k : Connection) (r : Result Offer ReadEnd) (m : Connection
   pub who : m.who ≡ k.who
   pub here : m.here ≡ k.here
   pub inlets : m.inlets ≡ k.inlets
+  pub arrived : m.arrived ≡ k.arrived
   pub hand : m.hand ≡ k.hand
   pub passed : m.passed ≡ k.passed
   pub lane : m.reader.lane ≡ None → k.reader.lane ≡ None
@@ -202,21 +203,21 @@ not_failed : (k : Connection) (m : Connection) → k.reader.failure ≡ None →
 not_failed k m none failure some = absurd (some_none failure k.reader.failure none (sym some))
 
 seen_facts : (k : Connection) (x : Item) (rest : List ℕ) → ReadFacts k (seen_step k x rest).answer (seen_step k x rest).conn
-seen_facts k (Hello lane) rest = record { who = refl; here = refl; inlets = refl; hand = refl; passed = refl; lane = no_lane lane k.reader.lane; answer = tt }
-seen_facts k (Framed number messages) rest = record { who = refl; here = refl; inlets = refl; hand = refl; passed = refl; lane = λ none. none; answer = refl }
+seen_facts k (Hello lane) rest = record { who = refl; here = refl; inlets = refl; arrived = refl; hand = refl; passed = refl; lane = no_lane lane k.reader.lane; answer = tt }
+seen_facts k (Framed number messages) rest = record { who = refl; here = refl; inlets = refl; arrived = refl; hand = refl; passed = refl; lane = λ none. none; answer = refl }
 
 reading_facts : (k : Connection) (r : Result (Item × List ℕ) ReadFault) → k.reader.failure ≡ None → ReadFacts k (reading_step k r).answer (reading_step k r).conn
 reading_facts k (Ok x) none = seen_facts k x.0 x.1
-reading_facts k (Err Open) none = record { who = refl; here = refl; inlets = refl; hand = refl; passed = refl; lane = λ l. l; answer = refl }
-reading_facts k (Err (Broken cause offset)) none = record { who = refl; here = refl; inlets = refl; hand = refl; passed = refl; lane = λ l. l; answer = not_failed k (reading_step k (Err (Broken cause offset))).conn none }
+reading_facts k (Err Open) none = record { who = refl; here = refl; inlets = refl; arrived = refl; hand = refl; passed = refl; lane = λ l. l; answer = refl }
+reading_facts k (Err (Broken cause offset)) none = record { who = refl; here = refl; inlets = refl; arrived = refl; hand = refl; passed = refl; lane = λ l. l; answer = not_failed k (reading_step k (Err (Broken cause offset))).conn none }
 
 failed_facts : (k : Connection) (o : Option Failure) → k.reader.failure ≡ o → ReadFacts k (step_unless_failed o k).answer (step_unless_failed o k).conn
 failed_facts k None none = reading_facts k (seen_reading k.here k.inlets k.reader.lane k.reader.rest) none
-failed_facts k (Some failure) some = record { who = refl; here = refl; inlets = refl; hand = refl; passed = refl; lane = λ l. l; answer = λ f e. refl }
+failed_facts k (Some failure) some = record { who = refl; here = refl; inlets = refl; arrived = refl; hand = refl; passed = refl; lane = λ l. l; answer = λ f e. refl }
 
 offered_facts : (k : Connection) (o : Option OfferedFrame) → ReadFacts k (step_unless_offered o k).answer (step_unless_offered o k).conn
 offered_facts k None = failed_facts k k.reader.failure refl
-offered_facts k (Some o) = record { who = refl; here = refl; inlets = refl; hand = refl; passed = refl; lane = λ l. l; answer = refl }
+offered_facts k (Some o) = record { who = refl; here = refl; inlets = refl; arrived = refl; hand = refl; passed = refl; lane = λ l. l; answer = refl }
 
 pub read_facts : (k : Connection) (r : Result Offer ReadEnd) (m : Connection) → Reads k r m → ReadFacts k r m
 read_facts k r m reads = go r reads
@@ -228,23 +229,23 @@ read_facts k r m reads = go r reads
     go (Ok offer) e = told (Ok offer) e
     go (Err ends.NotYet) e = told (Err ends.NotYet) e
     go (Err (ends.BadFrame cause place)) e = told (Err (ends.BadFrame cause place)) e
-    go (Err ends.NoMemory) e = subst (λ (c : Connection). ReadFacts k (Err ends.NoMemory) c) (sym e) (record { who = refl; here = refl; inlets = refl; hand = refl; passed = refl; lane = λ l. l; answer = refl })
+    go (Err ends.NoMemory) e = subst (λ (c : Connection). ReadFacts k (Err ends.NoMemory) c) (sym e) (record { who = refl; here = refl; inlets = refl; arrived = refl; hand = refl; passed = refl; lane = λ l. l; answer = refl })
 
 keeps_read : (k m : Connection) (r : Result Offer ReadEnd) → ReadFacts k r m → KeepsPassed k m
-keeps_read k m r f = record { who = f.who; here = f.here; inlets = f.inlets; passed = f.passed; hello = λ first none. (f.hand ∙ (first (f.lane none)).0, f.passed ∙ (first (f.lane none)).1) }
+keeps_read k m r f = record { who = f.who; here = f.here; inlets = f.inlets; arrived = f.arrived; passed = f.passed; hello = λ first none. (f.hand ∙ (first (f.lane none)).0, f.passed ∙ (first (f.lane none)).1) }
 
 -- after an offered frame was settled
 data SettledFacts (m n : Connection) : Type 0 where
-  AreSettled : n.who ≡ m.who → n.here ≡ m.here → n.inlets ≡ m.inlets → n.passed ≡ m.passed → n.reader.lane ≡ m.reader.lane → SettledFacts m n
+  AreSettled : n.who ≡ m.who → n.here ≡ m.here → n.inlets ≡ m.inlets → n.arrived ≡ m.arrived → n.passed ≡ m.passed → n.reader.lane ≡ m.reader.lane → SettledFacts m n
 
 settled_facts : (m : Connection) (b : Bool) → SettledFacts m (settled b m)
 settled_facts m b = go b m.offered
   where
     go : (b : Bool) (o : Option OfferedFrame) → SettledFacts m (settled_as b o m)
-    go true None = AreSettled refl refl refl refl refl
-    go false None = AreSettled refl refl refl refl refl
-    go true (Some o) = AreSettled refl refl refl refl refl
-    go false (Some o) = AreSettled refl refl refl refl refl
+    go true None = AreSettled refl refl refl refl refl refl
+    go false None = AreSettled refl refl refl refl refl refl
+    go true (Some o) = AreSettled refl refl refl refl refl refl
+    go false (Some o) = AreSettled refl refl refl refl refl refl
 
 has_lane : (inlets : List InletName) (lane : Option LaneCert) (place : ℕ) → lane_inlet_of inlets lane ≡ Some place → lane ≡ None → ⊥
 has_lane inlets None place e none = absurd cc
@@ -254,19 +255,19 @@ keeps_settled : (k m : Connection) (r : Result Offer ReadEnd) (b : Bool) (place 
 keeps_settled k m r b place f there = go (settled b m) (settled_facts m b)
   where
     go : (n : Connection) → SettledFacts m n → KeepsPassed k n
-    go n (AreSettled who here inlets passed lane) =
-        record { who = who ∙ f.who; here = here ∙ f.here; inlets = inlets ∙ f.inlets; passed = passed ∙ f.passed; hello = λ first none. absurd (has_lane m.inlets m.reader.lane place there (sym lane ∙ none)) }
+    go n (AreSettled who here inlets arrived passed lane) =
+        record { who = who ∙ f.who; here = here ∙ f.here; inlets = inlets ∙ f.inlets; arrived = arrived ∙ f.arrived; passed = passed ∙ f.passed; hello = λ first none. absurd (has_lane m.inlets m.reader.lane place there (sym lane ∙ none)) }
 
 free_settled : (m : Connection) (b : Bool) → m.passed ≡ None → (settled b m).passed ≡ None
 free_settled m b none = go (settled b m) (settled_facts m b)
   where
     go : (n : Connection) → SettledFacts m n → n.passed ≡ None
-    go n (AreSettled who here inlets passed lane) = passed ∙ none
+    go n (AreSettled who here inlets arrived passed lane) = passed ∙ none
 
 -- THE NEXT ITEM
 
 keeps_all : (k : Connection) → KeepsPassed k k
-keeps_all k = record { who = refl; here = refl; inlets = refl; passed = refl; hello = λ h. h }
+keeps_all k = record { who = refl; here = refl; inlets = refl; arrived = refl; passed = refl; hello = λ h. h }
 
 pub next_busy : (stamp : ℕ) (k : Connection) (inlets : List CountedLane) → ((k.hand ≡ []) × (k.passed ≡ None) → ⊥) → IsNext Still stamp k k inlets inlets
 next_busy stamp k inlets busy = record { accepted = accepts_busy k inlets busy; keeps = keeps_all k; counts = inl refl; still = λ s. (refl, refl) }

@@ -1,5 +1,5 @@
 -- A host of which a connection's first message was judged.
-use Rattle.std.proofs.Common.{◌≡◌, ℕ, ◌<◌, ◌≤◌, List, ◌∷◌, Option, Some, None, length, slice_get, option_map, refl, sym, ap, ◌∙◌, subst, arith}
+use Rattle.std.proofs.Common.{◌≡◌, ℕ, ◌<◌, ◌≤◌, List, [], map, ◌∷◌, Option, Some, None, length, slice_get, option_map, refl, sym, ap, ◌∙◌, subst, arith}
 use Rattle.std.specs.Prelude.{◌≢◌, Result, Ok, Err}
 use Rattle.ds_label.specs.declared.rule.Rule.{Rule}
 use Rattle.ds_cert.specs.declared.lane.LaneCert.{LaneCert}
@@ -20,11 +20,11 @@ use Rattle.ds_inlet.specs.PlainConnections.{plain_conn}
 use Rattle.ds_inlet.proofs.PlainCalls.{plain_drop, plain_pass}
 use Rattle.ds_scheme.specs.TheScheme.{scheme}
 use Rattle.ds_exporter.specs.HostStates.{HostState}
-use Rattle.ds_exporter.specs.PlainHosts.{conn_at, conn_of, ends_of, host_of, plain_passed, site_of}
+use Rattle.ds_exporter.specs.PlainHosts.{arrived_of, conn_at, conn_of, ends_of, host_of, plain_passed, site_of}
 use Rattle.ds_exporter.specs.Conditions.{IsFit}
 use Rattle.ds_exporter.specs.Stamping.{IsBefore, IsUpTo, last_of_desk}
 use Rattle.ds_exporter.specs.Delivering.{IsJudged, IsJudgedAt, IsVerdict, after_verdict}
-use Rattle.ds_exporter.proofs.Places.{some_is, there_is}
+use Rattle.ds_exporter.proofs.Places.{map_kept_at, some_is, there_is}
 use Rattle.ds_exporter.proofs.Tables.{fits_desk}
 use Rattle.ds_exporter.proofs.Stamps.{below_more}
 use Rattle.ds_exporter.proofs.OneConn.{Keeps, conn_stands, fits_conn}
@@ -46,6 +46,12 @@ rule_of (Err rule) = Some rule
 abbrev passes_as : Result LocalMessage Rule → Message → Connection → Option (ℕ × LocalMessage)
 passes_as (Ok mail) front k = Some (front.slot, mail)
 passes_as (Err rule) front k = k.passed
+
+arrived_verdict : (verdict : Result LocalMessage Rule) (k : Connection) (hand : List Message) → (after_as verdict hand k).arrived ≡ k.arrived
+arrived_verdict (Ok mail) k [] = refl
+arrived_verdict (Ok mail) k (m ∷ hand) = refl
+arrived_verdict (Err rule) k [] = refl
+arrived_verdict (Err rule) k (m ∷ hand) = refl
 
 by_hand : (verdict : Result LocalMessage Rule) (k : Connection) (hand : List Message) → k.hand ≡ hand → after_verdict verdict k ≡ after_as verdict hand k
 by_hand (Ok mail) k hand e = ap (λ (ms : List Message). passed_from mail ms k) e
@@ -163,6 +169,10 @@ module _ (e : HostState) (place stamp : ℕ) (who : Actor) (ready desk : DeskVie
 
   pub others_judged_all : (other : ℕ) → other ≢ place → slice_get conns other ≡ slice_get e.conns other
   others_judged_all other apart = by_one (λ (x : HostState). slice_get x.conns other ≡ slice_get e.conns other) (λ k m h is. at_other place other (λ _. after_verdict is.verdict k) e.conns apart)
+
+  pub arrived_judged_all : map arrived_of conns ≡ map arrived_of e.conns
+  arrived_judged_all = by_one (λ (x : HostState). map arrived_of x.conns ≡ map arrived_of e.conns)
+      (λ k m h is. map_kept_at arrived_of place (λ _. after_verdict is.verdict k) e.conns (λ x g. ap arrived_of (by_hand is.verdict k k.hand refl) ∙ (arrived_verdict is.verdict k k.hand ∙ ap arrived_of (some_is k x (sym h ∙ g)))))
 
   pub ends_judged_all : (link : List ℕ) → ends_of link place after_judged ≡ delivered e place link
   ends_judged_all link = by_one (λ (x : HostState). ends_of link place x ≡ delivered e place link) (λ k m h is. ends e place stamp who k m h (free k h).0 fit is link)

@@ -14,11 +14,11 @@ use Rattle.ds_inlet.specs.Accepting.{inlet_plan}
 use Rattle.ds_inlet.specs.Connections.{Connection}
 use Rattle.ds_scheme.specs.TheScheme.{scheme}
 use Rattle.ds_exporter.specs.HostStates.{HostBox, HostState}
-use Rattle.ds_exporter.specs.PlainHosts.{arrived_at, conn_at, conn_of, ends_of, host_of, name_of_inlet, plain_mail, plain_passed, site_of}
+use Rattle.ds_exporter.specs.PlainHosts.{arrived_at, arrived_of, conn_at, conn_of, ends_of, host_of, name_of_inlet, plain_mail, plain_passed, site_of}
 use Rattle.ds_exporter.specs.Conditions.{HasHelloFirst, IsConnNamed, IsFit, IsMailNamed, IsPassedNamed, LeadsTo}
 use Rattle.ds_exporter.specs.Stamping.{IsBefore, IsUpTo}
 use Rattle.ds_exporter.specs.Delivering.{IsPut, IsPutAt}
-use Rattle.ds_exporter.proofs.Places.{all_get, some_is, there_is}
+use Rattle.ds_exporter.proofs.Places.{all_get, map_kept_at, some_is, there_is}
 use Rattle.ds_exporter.proofs.OneConn.{Keeps, arrived_stands, conn_stands, fits_conn}
 use Rattle.ds_exporter.proofs.BoxPuts.{below_put, fits_put, host_put, plan_put, with_put}
 use Rattle.ds_exporter.proofs.DeliverAsks.{asks_nothing, asks_put, peer_read, place_is}
@@ -130,6 +130,10 @@ module _ (e : HostState) (place stamp : ℕ) (conns : List Connection) (boxes : 
 
   pub others_put_all : (other : ℕ) → other ≢ place → slice_get conns other ≡ slice_get e.conns other
   others_put_all other apart = by_one (λ (x : HostState). slice_get x.conns other ≡ slice_get e.conns other) (λ k m h is. at_other place other (λ _. record k { passed = None }) e.conns apart)
+
+  pub arrived_put_all : map arrived_of conns ≡ map arrived_of e.conns
+  arrived_put_all = by_one (λ (x : HostState). map arrived_of x.conns ≡ map arrived_of e.conns)
+      (λ k m h is. map_kept_at arrived_of place (λ _. record k { passed = None }) e.conns (λ x g. ap arrived_of (some_is k x (sym h ∙ g))))
 
   pub ends_put_all : (link : List ℕ) → ends_of link place after_put ≡ delivered e place link
   ends_put_all link = by_one (λ (x : HostState). ends_of link place x ≡ delivered e place link) (λ k m h is. ends e place stamp k m boxes h fit is link)

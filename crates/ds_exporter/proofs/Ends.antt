@@ -17,7 +17,7 @@ use Rattle.ds_scheme.specs.TheScheme.{scheme}
 use Rattle.ds_exporter.specs.declared.moved.Moved.{Moved}
 use Rattle.ds_exporter.specs.declared.moved.Moved.TheVariants.{Still}
 use Rattle.ds_exporter.specs.HostStates.{HostState}
-use Rattle.ds_exporter.specs.PlainHosts.{arrived_at, conn_at, conn_of, ends_of, host_of, name_of_inlet, site_of}
+use Rattle.ds_exporter.specs.PlainHosts.{arrived_at, arrived_of, conn_at, conn_of, ends_of, host_of, name_of_inlet, site_of}
 use Rattle.ds_exporter.specs.Conditions.{IsFit, IsPassedNamed, HasBox, AreTwoInlets, LeadsTo}
 use Rattle.ds_exporter.specs.Stamping.{IsBefore, IsInletBefore, IsUpTo}
 use Rattle.ds_exporter.specs.Moving.{Moves}
@@ -112,6 +112,9 @@ module _ (e : HostState) (place stamp : ℕ) (moved : Moved) (k m : Connection) 
       let conns = at_still place (λ _. m) e.conns (λ x h. same.0 ∙ sym (only x h)) in
       λ i. record e { conns = conns i; inlets = same.1 i }
 
+  pub arrived_next : map arrived_of (with_next place m later e).conns ≡ map arrived_of e.conns
+  arrived_next = map_kept_at arrived_of place (λ _. m) e.conns (λ x h. next.keeps.arrived ∙ ap arrived_of (sym (only x h)))
+
   before : (link : List ℕ) → met e.desk.here e.desk.desk.rows link (host_of e) e.inlets k ≡ ends_of link place e
   before link = ap (λ (c : Conn). record { host = host_of e; conn = c }) (sym (conn_stands e link place k stands))
 
@@ -157,6 +160,9 @@ module _ (e : HostState) (place stamp : ℕ) (moved : Moved) (conns : List Conne
 
   pub others_all : (other : ℕ) → other ≢ place → slice_get conns other ≡ slice_get e.conns other
   others_all other apart = by_one (λ (x : HostState). slice_get x.conns other ≡ slice_get e.conns other) (λ k m h n. at_other place other (λ _. m) e.conns apart)
+
+  pub arrived_all : map arrived_of conns ≡ map arrived_of e.conns
+  arrived_all = by_one (λ (x : HostState). map arrived_of x.conns ≡ map arrived_of e.conns) (λ k m h n. arrived_next e place stamp moved k m later h n)
 
   pub moves_all : IsFit e → (link : List ℕ) → Moves moved (ends_of link place e) (ends_of link place after_all)
       (perform_conn scheme (site_of e) (host_of e) (conn_at link place e) (accept scheme (site_of e) (conn_at link place e) (arrived_at place e)))

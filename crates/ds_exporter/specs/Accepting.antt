@@ -46,6 +46,7 @@ pub record KeepsPassed (before after : Connection) : Type 0 where
   pub who : after.who ≡ before.who
   pub here : after.here ≡ before.here
   pub inlets : after.inlets ≡ before.inlets
+  pub arrived : after.arrived ≡ before.arrived
   pub passed : after.passed ≡ before.passed
   pub hello : HasHelloFirst before → HasHelloFirst after
 

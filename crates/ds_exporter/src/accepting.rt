@@ -8,7 +8,7 @@ ghost use Rattle.ds_model.specs.Step.{fresh_in, perform_conn};
 ghost use Rattle.ds_inlet.specs.Connections.{Connection, IsOfferedAt, lane_inlet_of, settled};
 ghost use Rattle.ds_scheme.specs.TheScheme.{scheme};
 ghost use Rattle.ds_exporter.specs.HostStates.{connection_of, inlet_of};
-ghost use Rattle.ds_exporter.specs.PlainHosts.{arrived_at, conn_at, ends_of, host_of, name_of_inlet, plain_inlet, site_of};
+ghost use Rattle.ds_exporter.specs.PlainHosts.{arrived_at, arrived_of, conn_at, ends_of, host_of, name_of_inlet, plain_inlet, site_of};
 ghost use Rattle.ds_exporter.specs.Accepting.{HasRoomAt, IsNext, IsNextAt, counted};
 ghost use Rattle.ds_exporter.specs.Moving.{Moves};
 ghost use Rattle.ds_exporter.specs.Stamping.{IsBefore, IsInletBefore, IsUpTo};
@@ -163,6 +163,7 @@ impl Exporter {
         ensures ok { (link : List ℕ) → IfOk result (λ moved. Moves moved (ends_of link conn self.old) (ends_of link conn self.new)
             (perform_conn scheme (site_of self.old) (host_of self.old) (conn_at link conn self.old) (accept scheme (site_of self.old) (conn_at link conn self.old) (arrived_at conn self.old)))) }
         ensures others { (place : ℕ) → place ≢ conn → slice_get self.new.conns place ≡ slice_get self.old.conns place }
+        ensures arrived { map arrived_of self.new.conns ≡ map arrived_of self.old.conns }
         ensures site { site_of self.new ≡ site_of self.old }
         ensures still { result ≡ Ok Moved.Still → self.new ≡ self.old }
         ensures err { OnErr result (self.new ≡ self.old) }

@@ -9,7 +9,7 @@ ghost use Rattle.ds_desk.specs.Desks.{entered};
 ghost use Rattle.ds_inlet.specs.Connections.{Connection};
 ghost use Rattle.ds_scheme.specs.TheScheme.{scheme};
 ghost use Rattle.ds_exporter.specs.HostStates.{connection_of};
-ghost use Rattle.ds_exporter.specs.PlainHosts.{arrived_at, conn_at, ends_of, host_of, site_of};
+ghost use Rattle.ds_exporter.specs.PlainHosts.{arrived_at, arrived_of, conn_at, ends_of, host_of, site_of};
 ghost use Rattle.ds_exporter.specs.Moving.{Moves};
 ghost use Rattle.ds_exporter.specs.Stamping.{IsBefore, IsUpTo};
 
@@ -55,6 +55,7 @@ impl Exporter {
             perform_conn scheme (site_of self.old) (host_of self.old) (conn_at link place self.old) (deliver scheme (site_of self.old) (conn_at link place self.old) (arrived_at place self.old))) }
         ensures changed { (link : List ℕ) → OnOk result (ends_of link place self.new ≢ ends_of link place self.old) }
         ensures others { (other : ℕ) → other ≢ place → slice_get self.new.conns other ≡ slice_get self.old.conns other }
+        ensures arrived { map arrived_of self.new.conns ≡ map arrived_of self.old.conns }
         ensures site { site_of self.new ≡ site_of self.old }
         ensures err { OnErr result (self.new ≡ self.old) }
         ensures stamps { IsUpTo stamp self.new }
@@ -74,6 +75,7 @@ impl Exporter {
         ensures changed { (link : List ℕ) → OnOk result (ends_of link place self.new ≢ ends_of link place self.old) }
         ensures looked { OnOk result ((k : Connection) → slice_get self.old.conns place ≡ Some k → self.new.desk ≡ entered stamp k.who Looked self.old.desk) }
         ensures others { (other : ℕ) → other ≢ place → slice_get self.new.conns other ≡ slice_get self.old.conns other }
+        ensures arrived { map arrived_of self.new.conns ≡ map arrived_of self.old.conns }
         ensures site { site_of self.new ≡ site_of self.old }
         ensures err { OnErr result (self.new ≡ self.old) }
         ensures stamps { IsUpTo stamp self.new }
@@ -102,6 +104,7 @@ impl Exporter {
         ensures ok { (link : List ℕ) → IfOk result (λ moved. Moves moved (ends_of link conn self.old) (ends_of link conn self.new)
             (perform_conn scheme (site_of self.old) (host_of self.old) (conn_at link conn self.old) (deliver scheme (site_of self.old) (conn_at link conn self.old) (arrived_at conn self.old)))) }
         ensures others { (place : ℕ) → place ≢ conn → slice_get self.new.conns place ≡ slice_get self.old.conns place }
+        ensures arrived { map arrived_of self.new.conns ≡ map arrived_of self.old.conns }
         ensures site { site_of self.new ≡ site_of self.old }
         ensures still { result ≡ Ok Moved.Still → self.new ≡ self.old }
         ensures err { OnErr result (self.new ≡ self.old) }

@@ -5,7 +5,7 @@ use Rattle.ds_scheme.specs.TheScheme.{scheme}
 use Rattle.ds_exporter.specs.HostStates.{HostState, connection_of, inlet_of, state_of}
 use Rattle.ds_exporter.specs.PlainHosts.{arrived_at, conn_at, ends_of, host_of, site_of}
 use Rattle.ds_exporter.specs.Moving.{Moves}
-use Rattle.ds_exporter.proofs.Ends.{below_all, fits_all, moves_all, others_all, site_all, still_all}
+use Rattle.ds_exporter.proofs.Ends.{arrived_all, below_all, fits_all, moves_all, others_all, site_all, still_all}
 use Rattle.ds_exporter.proofs.IfDone.{still_is}
 use Rattle.ds_exporter.proofs.exporter.Exporter.accept.Goals as goal
 
@@ -28,6 +28,12 @@ returns-clause-others c =
     let within = rw (← c.self.view_is) at c.requires.there in
     rw (← c.self.view_is)
     (λ place apart. others_all (state_of c.self.inside.parts) c.args.conn c.args.stamp c.in_ok-moved.moved (map connection_of c.accept_at.new.conns.items) (map inlet_of c.accept_at.new.inlets.items) within (λ k h. c.in_ok-moved.ensures.ok k h) place apart)
+
+pub returns-clause-arrived : goal.returns-clause-arrived
+returns-clause-arrived c =
+    let within = rw (← c.self.view_is) at c.requires.there in
+    rw (← c.self.view_is)
+    (arrived_all (state_of c.self.inside.parts) c.args.conn c.args.stamp c.in_ok-moved.moved (map connection_of c.accept_at.new.conns.items) (map inlet_of c.accept_at.new.inlets.items) within (λ k h. c.in_ok-moved.ensures.ok k h))
 
 pub returns-clause-site : goal.returns-clause-site
 returns-clause-site c =

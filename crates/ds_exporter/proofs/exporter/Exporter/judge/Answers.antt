@@ -8,7 +8,7 @@ use Rattle.ds_exporter.specs.PlainHosts.{ends_of}
 use Rattle.ds_exporter.specs.Conditions.{HasHelloFirst, IsBoxNamed}
 use Rattle.ds_exporter.proofs.Places.{all_get}
 use Rattle.ds_exporter.proofs.DeliverPuts.{delivered}
-use Rattle.ds_exporter.proofs.DeliverJudges.{below_judged_all, changed_judged_all, ends_judged_all, fits_judged_all, others_judged_all, site_judged_all}
+use Rattle.ds_exporter.proofs.DeliverJudges.{arrived_judged_all, below_judged_all, changed_judged_all, ends_judged_all, fits_judged_all, others_judged_all, site_judged_all}
 use Rattle.ds_exporter.proofs.exporter.Exporter.judge.Goals as goal
 
 pub judge_at-requires-clause-table : goal.judge_at-requires-clause-table
@@ -56,6 +56,14 @@ returns-clause-others c =
     let ready = rw (← c.self.view_is) at c.requires.ready in
     rw (← c.self.view_is) (λ other apart. others_judged_all e c.args.place c.args.stamp c.who_at-who.result (kept_of c.reserve.new.self) (kept_of c.look.new.self) (map connection_of c.judge_at.new.conns.items) within (λ k h. ready k h) c.self.invariant
     c.in_ok-reserve.ensures.same c.look.ensures.entry (λ k h. c.in_ok-judge_at.ensures.ok k h) other apart)
+
+pub returns-clause-arrived : goal.returns-clause-arrived
+returns-clause-arrived c =
+    let e = state_of c.self.inside.parts in
+    let within = rw (← c.self.view_is) at c.requires.there in
+    let ready = rw (← c.self.view_is) at c.requires.ready in
+    rw (← c.self.view_is) (arrived_judged_all e c.args.place c.args.stamp c.who_at-who.result (kept_of c.reserve.new.self) (kept_of c.look.new.self) (map connection_of c.judge_at.new.conns.items) within (λ k h. ready k h) c.self.invariant
+    c.in_ok-reserve.ensures.same c.look.ensures.entry (λ k h. c.in_ok-judge_at.ensures.ok k h))
 
 pub returns-clause-site : goal.returns-clause-site
 returns-clause-site c =

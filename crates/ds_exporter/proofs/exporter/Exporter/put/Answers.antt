@@ -3,7 +3,7 @@ use Rattle.ds_exporter.specs.HostStates.{HostState, box_of, connection_of, state
 use Rattle.ds_exporter.specs.PlainHosts.{ends_of}
 use Rattle.ds_exporter.specs.Conditions.{PassedHasBox}
 use Rattle.ds_exporter.proofs.Places.{all_get}
-use Rattle.ds_exporter.proofs.DeliverPuts.{below_put_all, changed_put_all, delivered, ends_put_all, fits_put_all, others_put_all, site_put_all}
+use Rattle.ds_exporter.proofs.DeliverPuts.{arrived_put_all, below_put_all, changed_put_all, delivered, ends_put_all, fits_put_all, others_put_all, site_put_all}
 use Rattle.ds_exporter.proofs.exporter.Exporter.put.Goals as goal
 
 pub put_passed-requires-clause-ready : goal.put_passed-requires-clause-ready
@@ -43,6 +43,13 @@ returns-clause-others c =
     let within = rw (← c.self.view_is) at c.requires.there in
     rw (← c.self.view_is)
     (λ other apart. others_put_all e c.args.place c.args.stamp (map connection_of c.put_passed.new.conns.items) (map box_of c.put_passed.new.boxes.items) within c.self.invariant (λ k h. c.in_ok-put_passed.ensures.ok k h) other apart)
+
+pub returns-clause-arrived : goal.returns-clause-arrived
+returns-clause-arrived c =
+    let e = state_of c.self.inside.parts in
+    let within = rw (← c.self.view_is) at c.requires.there in
+    rw (← c.self.view_is)
+    (arrived_put_all e c.args.place c.args.stamp (map connection_of c.put_passed.new.conns.items) (map box_of c.put_passed.new.boxes.items) within c.self.invariant (λ k h. c.in_ok-put_passed.ensures.ok k h))
 
 pub returns-clause-site : goal.returns-clause-site
 returns-clause-site c =

@@ -1,0 +1,4 @@
+pub mod Keeps
+pub mod Arrivals
+pub mod Nothing
+pub mod Places

@@ -1,0 +1,5 @@
+pub mod Routes
+pub mod Changes
+pub mod OneHost
+pub mod OneConn
+pub mod Answered

@@ -1,0 +1,34 @@
+use Rattle.std.proofs.Common.{◌≡◌, ℕ, List, map, slice_set, refl, sym, ap, ◌∙◌, subst}
+use Rattle.ds_model.specs.Plan.{HostPlan}
+use Rattle.ds_model.specs.World.{Conn}
+use Rattle.ds_model.specs.ConnectionStep.{deliver}
+use Rattle.ds_scheme.specs.TheScheme.{scheme}
+use Rattle.ds_exporter.proofs.IfDone.{on_err}
+use Rattle.ds_exporter.proofs.Places.{map_at_here, map_same, some_is, stands_now}
+use Rattle.ds_hosts.specs.Nodes.{NodeState, node_of}
+use Rattle.ds_world.specs.Afters.{IsAnswered}
+use Rattle.ds_world.proofs.OneHost.{still_is}
+use Rattle.ds_world.proofs.connecting.deliver_at.Goals as goal
+
+pub returns-clause-ok : goal.returns-clause-ok
+returns-clause-ok c = λ x h.
+    let there = stands_now node_of c.args.nodes.now.items c.args.host c.index_mut.result.now c.requires.there c.index_mut.ensures.value in (
+      node_of c.deliver.new.self,
+      map_at_here node_of (λ _. node_of c.deliver.new.self) c.args.host c.args.nodes.now.items c.index_mut.result.now c.deliver.new.self c.requires.there refl,
+      subst (λ (z : NodeState). IsAnswered (λ (plan : HostPlan) (k : Conn) (bytes : List ℕ). deliver scheme plan k bytes) c.in_ok-moved.moved c.args.stamp c.args.place z (node_of c.deliver.new.self))
+          (some_is (node_of c.index_mut.result.now) x (sym there ∙ h))
+          (record {
+            moves = λ link plan is. c.in_ok-moved.ensures.ok link plan is;
+            others = λ link other apart. c.in_ok-moved.ensures.others link other apart;
+            arrived = λ other. c.in_ok-moved.ensures.arrived other;
+            plan = λ plan is. c.in_ok-moved.ensures.plan plan is;
+            count = c.in_ok-moved.ensures.count;
+            still = λ s. c.in_ok-moved.ensures.still (still_is c.in_ok-moved.moved s);
+            stamps = c.in_ok-moved.ensures.stamps;
+          }),
+    )
+
+pub returns-in_err-moved-clause-err : goal.returns-in_err-moved-clause-err
+returns-in_err-moved-clause-err c =
+    on_err (map node_of (slice_set c.args.nodes.now.items c.args.host c.deliver.new.self) ≡ map node_of c.args.nodes.now.items) c.from_residual.result
+    (map_same node_of c.args.host c.args.nodes.now.items c.index_mut.result.now c.deliver.new.self c.requires.there (c.in_err-moved.ensures.err ∙ ap node_of c.index_mut.ensures.value))
