@@ -1,0 +1,5 @@
+pub mod Signers
+pub mod Signing
+pub mod Lanes
+pub mod Desks
+pub mod Parts

@@ -1,0 +1,10 @@
+//! A document's hosts as exporters, as they are before the first event.
+#![tactic(auto)]
+
+mod certs;
+mod conns;
+mod desks;
+mod keys;
+mod lanes;
+mod procs;
+mod signing;
