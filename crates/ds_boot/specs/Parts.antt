@@ -1,5 +1,5 @@
 -- A running host's processes, mailboxes, inlets and connections before the first event.
-use Rattle.std.specs.Prelude.{◌≡◌, ℕ, ◌==◌, if◌then◌else◌, List, [], ◌∷◌, ◌++◌, map, None, IsTrue}
+use Rattle.std.specs.Prelude.{◌≡◌, ℕ, ◌==◌, if◌then◌else◌, List, [], ◌∷◌, ◌++◌, map, flat_map, None, IsTrue}
 use Rattle.ds_label.specs.declared.category.PubKey.{PubKey}
 use Rattle.ds_label.specs.declared.category.Category.{Category}
 use Rattle.ds_script.specs.declared.actor.Actor.{Actor}
@@ -16,6 +16,7 @@ use Rattle.ds_inlet.specs.Connections.{Connection, new_connection}
 use Rattle.ds_exporter.specs.HostStates.{HostProcess, HostBox}
 use Rattle.ds_plan.specs.declared.doc.Doc.{Doc}
 use Rattle.ds_plan.specs.declared.host.HostSpec.{HostSpec}
+use Rattle.ds_plan.specs.declared.host.LaneSpec.{LaneSpec}
 use Rattle.ds_plan.specs.declared.process.ProcSpec.{ProcSpec}
 use Rattle.ds_plan.specs.declared.process.BoxSpec.{BoxSpec}
 use Rattle.ds_setup.specs.Lists.{each, joined}
@@ -53,11 +54,14 @@ abbrev pub inlet_begun : InletName → CountedLane
 inlet_begun name = fresh_inlet name.exporter name.lane
 
 -- the hosts to which connections lead, by the connections' numbers: those of all lanes, and then the links
+abbrev pub lane_to : LaneSpec → ℕ
+lane_to lane = lane.to
+
 abbrev pub lane_ends : HostSpec → List ℕ
-lane_ends h = map (λ lane. lane.to) h.lanes
+lane_ends h = map lane_to h.lanes
 
 abbrev pub ends_of : Doc → List ℕ
-ends_of d = joined (map lane_ends d.hosts) ++ d.links
+ends_of d = flat_map lane_ends d.hosts ++ d.links
 
 abbrev pub conn_actor : (host number : ℕ) → Actor
 conn_actor host number = record { kind = kinds.Conn; host = host; index = number }

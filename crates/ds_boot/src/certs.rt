@@ -1,7 +1,7 @@
 //! The document's certificates, each signed by its host where a host of the document makes it.
 #![tactic(auto)]
 
-ghost use Rattle.std.specs.Prelude.{◌≡◌, ◌++◌, ◌∷◌, ◌<◌, [], map, take, length, get_or, option_map, slice_get, IfOk, OnOk, Some, None};
+ghost use Rattle.std.specs.Prelude.{◌≡◌, ◌++◌, ◌∷◌, ◌<◌, [], map, take, length, get_or, option_map, slice_get, slice_set, IfOk, OnOk, Some, None};
 ghost use Rattle.lms_state.specs.Signers.{one_leaf_on};
 ghost use Rattle.ds_plan.specs.Keys.{host_keys};
 ghost use Rattle.ds_plan.specs.Documents.{IsDocument};

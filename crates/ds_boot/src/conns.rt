@@ -1,7 +1,9 @@
 //! A host's inlets, and the connections to it.
 #![tactic(auto)]
 
-ghost use Rattle.std.specs.Prelude.{◌≡◌, ◌++◌, ◌+◌, ◌<◌, ◌≤◌, ◌^◌, [], map, length, flat_map, IfOk, OnOk, Some, slice_get};
+ghost use Rattle.std.specs.Prelude.{List, ◌∷◌, ◌≡◌, ◌++◌, ◌+◌, ◌<◌, ◌≤◌, ◌^◌, [], map, length, flat_map, IfOk, OnOk, Some, slice_get};
+ghost use Rattle.ds_model.specs.Scheme.{InletName as Name};
+ghost use Rattle.ds_plan.specs.declared.host.HostSpec.{HostSpec};
 ghost use Rattle.ds_plan.specs.Keys.{host_key, host_keys};
 ghost use Rattle.ds_plan.specs.Documents.{IsDocument, is_silent};
 ghost use Rattle.ds_setup.specs.Lists.{each, joined};
@@ -98,15 +100,24 @@ fn push_declared(
     })
 }
 
+/// The inlet with the name at a place, of which no frame was taken.
+fn inlet_at(alloc: Global, names: &InletNames, place: usize) -> Inlet
+    requires { place < length names.now }
+    ensures { (name : Name) → slice_get names.now place ≡ Some name → inlet_of result ≡ inlet_begun name }
+{
+    let Some(name) = names.get(place) else {
+        unreachable!();
+    };
+    Inlet::new(alloc, name.exporter, name.lane)
+}
+
 /// A host's inlets, of which no frame was taken. `AllocError` where memory runs out.
 pub fn begin_inlets(alloc: Global, names: &InletNames) -> Result<InletList, AllocError>
     ensures { IfOk result (λ l. map inlet_of l.items ≡ map inlet_begun names.now) }
 {
     let mut inlets = Vec::new(alloc);
-    let mut place = 0;
-    while let Some(name) = names.get(place) {
-        inlets.push(Inlet::new(alloc, name.exporter, name.lane))?;
-        place += 1;
+    for place in 0..names.len() {
+        inlets.push(inlet_at(alloc, names, place))?;
     }
     Ok(inlets)
 }

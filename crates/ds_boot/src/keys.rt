@@ -1,7 +1,7 @@
 //! Keys that hosts and lanes sign with.
 #![tactic(auto)]
 
-ghost use Rattle.std.specs.Prelude.{◌≡◌, map, length, IfOk, Some};
+ghost use Rattle.std.specs.Prelude.{◌≡◌, false, map, length, IfOk, Some};
 ghost use Rattle.lms_sig.specs.Keys.{derived_seed, derived_id};
 ghost use Rattle.ds_plan.specs.Keys.{identity_key, identity_of, host_key, host_keys, key_of};
 ghost use Rattle.ds_plan.specs.Documents.{is_silent};

@@ -3,11 +3,12 @@
 
 ghost use Rattle.std.specs.Prelude.{◌≡◌, ◌+◌, ◌<◌, ◌≤◌, [], false, length, map, All, IfOk, OnOk};
 ghost use Rattle.lms_sig.specs.Parameters.{leaf_count};
+ghost use Rattle.ds_plan.specs.declared.host.HostSpec.{HostSpec};
 ghost use Rattle.ds_plan.specs.Documents.{is_silent};
 ghost use Rattle.ds_setup.specs.Lists.{each};
 ghost use Rattle.ds_setup.specs.Signed.{address_leaves};
 ghost use Rattle.ds_exporter.specs.HostStates.{lane_of};
-ghost use Rattle.ds_boot.specs.Signers.{identity_tree, signing_at};
+ghost use Rattle.ds_boot.specs.Signers.{identity_tree, lane_signing, signing_at};
 ghost use Rattle.ds_boot.specs.Lanes.{blank_lane, lane_begun};
 
 use crate::keys::lane_signer;

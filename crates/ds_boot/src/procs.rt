@@ -1,7 +1,7 @@
 //! A running host's processes and mailboxes, over its own numbers.
 #![tactic(auto)]
 
-ghost use Rattle.std.specs.Prelude.{◌≡◌, [], ◌∷◌, map, All, IfOk, IsTrue};
+ghost use Rattle.std.specs.Prelude.{◌≡◌, true, [], ◌∷◌, map, All, IfOk, IsTrue};
 ghost use Rattle.ds_script.specs.Names.{AreApart};
 ghost use Rattle.ds_model.specs.Mapping.{is_known, number_of};
 ghost use Rattle.ds_map.specs.Table.{IsTable};
