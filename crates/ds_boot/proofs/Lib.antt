@@ -1,1 +1,4 @@
 mod Lists
+mod Rows
+mod Kept
+mod Signers

@@ -138,6 +138,28 @@ fn next_cert(
     }
 }
 
+/// The document's certificates, which are these.
+fn sign_each(
+    alloc: Global,
+    doc: &Doc,
+    keys: &[PubKey],
+    signers: &mut [Option<Signer>],
+    specs: &[CertSpec],
+) -> Result<KeptCertList, AllocError>
+    requires document { IsDocument doc.now }
+    requires specs { specs.now ≡ doc.now.certs }
+    requires keys { keys.now ≡ host_keys doc.now.hosts }
+    requires signers { signers.old ≡ each (signer_behind []) doc.now.hosts }
+    ensures certs { IfOk result (λ certs. certs.items ≡ doc_certs doc.now.hosts doc.now.certs) }
+    ensures signers { OnOk result (signers.new ≡ each (signer_behind doc.now.certs) doc.now.hosts) }
+{
+    let mut certs = Vec::new(alloc);
+    for (place, spec) in specs.iter().enumerate() {
+        certs.push(next_cert(alloc, doc, keys, signers, place, spec)?)?;
+    }
+    Ok(certs)
+}
+
 /// The document's certificates, in order. Each signer is then behind all that its host signs. `AllocError` where memory
 /// runs out.
 pub fn sign_certs(
@@ -152,9 +174,5 @@ pub fn sign_certs(
     ensures certs { IfOk result (λ certs. certs.items ≡ doc_certs doc.now.hosts doc.now.certs) }
     ensures signers { OnOk result (signers.new ≡ each (signer_behind doc.now.certs) doc.now.hosts) }
 {
-    let mut certs = Vec::new(alloc);
-    for (place, spec) in doc.certs.as_slice().iter().enumerate() {
-        certs.push(next_cert(alloc, doc, keys, signers, place, spec)?)?;
-    }
-    Ok(certs)
+    sign_each(alloc, doc, keys, signers, doc.certs.as_slice())
 }

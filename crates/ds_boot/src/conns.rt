@@ -70,14 +70,16 @@ fn push_lane_inlets(
     exporter: PubKey,
     here: u32,
     host: &HostSpec,
+    lanes: &[LaneSpec],
 ) -> Result<(), AllocError>
+    requires lanes { lanes.now ≡ host.now.lanes }
     requires key { exporter ≡ host_key host.now }
     requires few { length host.now.lanes ≤ 32 }
     requires room { length names.old + length host.now.lanes ≤ 1024 }
     ensures ok { OnOk result (names.new ≡ names.old ++ inlets_from here host.now) }
     ensures more { OnOk result (length names.new ≤ length names.old + length host.now.lanes) }
 {
-    for (place, lane) in host.lanes.as_slice().iter().enumerate() {
+    for (place, lane) in lanes.iter().enumerate() {
         push_lane_inlet(names, exporter, here, place, lane)?;
     }
     Ok(())

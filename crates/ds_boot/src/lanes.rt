@@ -80,6 +80,31 @@ fn begin_lane(
     Ok(LanePart { state, end })
 }
 
+/// The lanes of a running host, which are these. `AllocError` where memory runs out.
+fn begin_each_lane(
+    alloc: Global,
+    keys: &[PubKey],
+    at: u32,
+    host: &HostSpec,
+    lanes: &[LaneSpec],
+    signer: &mut Signer,
+) -> Result<LaneList, AllocError>
+    requires lanes { lanes.now ≡ host.now.lanes }
+    requires runs { is_silent host.now.secret ≡ false }
+    requires few { length host.now.lanes ≤ 32 }
+    requires to { All (λ l. l.to < length keys.now) host.now.lanes }
+    requires signer { signer.old ≡ signing_at (address_leaves host.now) (identity_tree host.now) }
+    requires leaves { address_leaves host.now + length host.now.lanes ≤ leaf_count host.now.identity.lms }
+    ensures lanes { IfOk result (λ begun. map lane_of begun.items ≡ each (lane_begun keys.now at host.now) host.now.lanes) }
+    ensures signer { OnOk result (signer.new ≡ signing_at (address_leaves host.now + length host.now.lanes) (identity_tree host.now)) }
+{
+    let mut begun = Vec::new(alloc);
+    for (place, lane) in lanes.iter().enumerate() {
+        begun.push(begin_lane(alloc, keys, at, host, signer, place as u32, lane)?)?;
+    }
+    Ok(begun)
+}
+
 /// The lanes of a running host, by their numbers. `AllocError` where memory runs out.
 pub fn begin_lanes(
     alloc: Global,
@@ -93,13 +118,8 @@ pub fn begin_lanes(
     requires to { All (λ l. l.to < length keys.now) host.now.lanes }
     requires signer { signer.old ≡ signing_at (address_leaves host.now) (identity_tree host.now) }
     requires leaves { address_leaves host.now + length host.now.lanes ≤ leaf_count host.now.identity.lms }
-    ensures lanes { IfOk result (λ lanes. map lane_of lanes.items ≡ each (lane_begun keys.now at host.now) host.now.lanes) }
+    ensures lanes { IfOk result (λ begun. map lane_of begun.items ≡ each (lane_begun keys.now at host.now) host.now.lanes) }
     ensures signer { OnOk result (signer.new ≡ signing_at (address_leaves host.now + length host.now.lanes) (identity_tree host.now)) }
 {
-    let mut lanes = Vec::new(alloc);
-    for (place, lane) in host.lanes.as_slice().iter().enumerate() {
-        let begun = begin_lane(alloc, keys, at, host, signer, place as u32, lane)?;
-        lanes.push(begun)?;
-    }
-    Ok(lanes)
+    begin_each_lane(alloc, keys, at, host, host.lanes.as_slice(), signer)
 }

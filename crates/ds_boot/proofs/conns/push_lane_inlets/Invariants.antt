@@ -6,6 +6,6 @@ use Rattle.ds_boot.proofs.conns.push_lane_inlets.Given as goal
 abbrev pub invariant-loop-place : goal.invariant-loop-place
 invariant-loop-place l =
     record {
-      names : l.names ≡ l.initial.names ++ joined (each (lane_inlet l.here l.host) (take l.place l.host.lanes));
+      names : l.names ≡ l.initial.names ++ joined (each (lane_inlet l.here l.host) (take l.place l.lanes));
       few : length l.names ≤ length l.initial.names + l.place;
     }

@@ -2,7 +2,7 @@ use Rattle.std.proofs.Common.{◌≡◌, take}
 use Rattle.ds_setup.specs.Lists.{each}
 use Rattle.ds_setup.specs.Signed.{doc_certs}
 use Rattle.ds_boot.specs.Signing.{signer_behind}
-use Rattle.ds_boot.proofs.certs.sign_certs.Given as goal
+use Rattle.ds_boot.proofs.certs.sign_each.Given as goal
 
 abbrev pub invariant-loop-place : goal.invariant-loop-place
 invariant-loop-place l =
