@@ -2,3 +2,4 @@ mod Lists
 mod Rows
 mod Kept
 mod Signers
+mod OwnParts

@@ -1,6 +1,8 @@
 -- Lists made by places, an item at a time.
 use Rattle.std.proofs.Common.{◌≡◌, ◌≢◌, ℕ, zero, suc, ◌+◌, ◌<◌, ◌≤◌, List, [], ◌∷◌, ◌++◌, length, take, get_or, Some, None, slice_get, drop, map, refl, sym, ◌∙◌, ap, subst, arith}
 use Rattle.std.specs.Prelude.{slice_set}
+use Rattle.std.specs.List.{flat_map}
+use Rattle.std.proofs.lemmas.List.Concat.{flat_map-append}
 use Rattle.std.proofs.lemmas.List.{append_assoc, append-nil, map-append, drop_more, drop_all}
 use Rattle.std.proofs.lemmas.Option.{none-some, same_Some}
 use Rattle.ds_setup.specs.Lists.{each, joined}
@@ -94,3 +96,27 @@ pub there_at : {A : Type 0} (xs : List A) (i : ℕ) (d : A) → i < length xs �
 there_at [] i d lt = absurd (omega arith)
 there_at (x ∷ xs) zero d lt = refl
 there_at (x ∷ xs) (suc i) d lt = there_at xs i d (omega (arith, lt))
+
+-- one item more of a list by places, as it is
+pub each_grows : {B C : Type 0} (g : ℕ → B → C) (xs : List B) (i : ℕ) (d : B) (items new : List C) (y : B) → i < length xs → new ≡ items ++ g i y ∷ [] → y ≡ get_or xs i d → items ≡ each g (take i xs) → new ≡ each g (take (i + 1) xs)
+each_grows {B} {C} g xs i d items new y lt is item so_far =
+    is ∙ (ap (λ (z : B). items ++ g i z ∷ []) item ∙ (ap (λ (ys : List C). ys ++ g i (get_or xs i d) ∷ []) so_far ∙ sym (each_more g xs i d lt)))
+
+-- one item's list more
+pub flat_grows : {B C : Type 0} (g : B → List C) (xs : List B) (i : ℕ) (d : B) (items new : List C) (y : B) → i < length xs → new ≡ items ++ g y → y ≡ get_or xs i d → items ≡ flat_map g (take i xs) → new ≡ flat_map g (take (i + 1) xs)
+flat_grows {B} {C} g xs i d items new y lt is item so_far =
+    is ∙ (ap (λ (z : B). items ++ g z) item ∙ (ap (λ (ys : List C). ys ++ g (get_or xs i d)) so_far
+    ∙ (ap (λ (zs : List C). flat_map g (take i xs) ++ zs) (sym (append-nil (g (get_or xs i d))))
+    ∙ (sym (flat_map-append g (take i xs) (get_or xs i d ∷ [])) ∙ ap (λ (ys : List B). flat_map g ys) (sym (take_more xs i (get_or xs i d) (there_at xs i d lt)))))))
+
+-- what stands behind a place that was written
+pub behind_set : {A : Type 0} (xs : List A) (i j : ℕ) (v : A) → i + 1 ≤ j → slice_get (slice_set xs i v) j ≡ slice_get xs j
+behind_set [] i j v le = refl
+behind_set (x ∷ xs) i zero v le = absurd (omega (arith, le))
+behind_set (x ∷ xs) zero (suc j) v le = refl
+behind_set (x ∷ xs) (suc i) (suc j) v le = behind_set xs i j v (omega (arith, le))
+
+pub length_set : {A : Type 0} (xs : List A) (i : ℕ) (v : A) → length (slice_set xs i v) ≡ length xs
+length_set [] i v = refl
+length_set (x ∷ xs) zero v = refl
+length_set (x ∷ xs) (suc i) v = ap suc (length_set xs i v)

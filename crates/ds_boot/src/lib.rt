@@ -1,6 +1,7 @@
 //! A document's hosts as exporters, as they are before the first event.
 #![tactic(auto)]
 
+mod begun;
 mod certs;
 mod conns;
 mod desks;
