@@ -3,3 +3,6 @@ mod Rows
 mod Kept
 mod Signers
 mod OwnParts
+mod Rooms
+mod DeskFacts
+mod Inlets

@@ -3,3 +3,5 @@ pub mod Signing
 pub mod Lanes
 pub mod Desks
 pub mod Parts
+pub mod Beginnings
+pub mod Nodes

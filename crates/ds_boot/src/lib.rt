@@ -7,5 +7,8 @@ mod conns;
 mod desks;
 mod keys;
 mod lanes;
+mod node;
 mod procs;
 mod signing;
+
+pub use node::{Node, NodeList};
