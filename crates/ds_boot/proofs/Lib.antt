@@ -6,3 +6,5 @@ mod OwnParts
 mod Rooms
 mod DeskFacts
 mod Inlets
+mod Named
+mod Started
