@@ -8,3 +8,5 @@ mod DeskFacts
 mod Inlets
 mod Named
 mod Started
+mod Pairs
+mod Distinct
