@@ -10,3 +10,4 @@ mod Named
 mod Started
 mod Pairs
 mod Distinct
+mod Fitting

@@ -1,3 +1,4 @@
+use Rattle.ds_boot.proofs.Fitting.{fits}
 use Rattle.ds_boot.proofs.Distinct.{inlets_differ}
 use Rattle.ds_boot.proofs.Started.{cert_is}
 use Rattle.ds_boot.proofs.Named.{procs_known}
