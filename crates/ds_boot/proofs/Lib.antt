@@ -11,3 +11,5 @@ mod Started
 mod Pairs
 mod Distinct
 mod Fitting
+mod Wholes
+mod Booted

@@ -1,6 +1,6 @@
 -- A host of a document as the program has it: an exporter where it runs, and the connections to it alone where outsiders act
 -- for it.
-use Rattle.std.specs.Prelude.{◌≡◌, ℕ, true, false, List, [], map, Option, Some, None}
+use Rattle.std.specs.Prelude.{◌≡◌, ℕ, true, false, List, [], map, slice_get, Some}
 use Rattle.ds_model.specs.Plan.{host_plan}
 use Rattle.ds_model.specs.World.{Host}
 use Rattle.ds_inlet.specs.Connections.{Connection}
@@ -9,7 +9,9 @@ use Rattle.ds_exporter.specs.PlainHosts.{host_of, site_of}
 use Rattle.ds_exporter.specs.Stamping.{IsBefore}
 use Rattle.ds_plan.specs.declared.doc.Doc.{Doc}
 use Rattle.ds_setup.specs.Plans.{plan_of}
-use Rattle.ds_setup.specs.Starts.{empty_desk}
+use Rattle.ds_setup.specs.Starts.{empty_desk, start_of}
+use Rattle.ds_setup.specs.Lists.{each}
+use Rattle.ds_boot.specs.Parts.{conns_to}
 use Rattle.ds_boot.specs.declared.node.Node.{Node}
 use Rattle.ds_boot.specs.declared.node.Node.TheVariants.{Running, Silent}
 
@@ -37,3 +39,9 @@ pub record IsExporterOf (d : Doc) (place : ℕ) (e : HostState) : Type 0 where
 abbrev pub IsNodeOf : Doc → (place : ℕ) → Node → Type 0
 IsNodeOf d place (Running e) = IsExporterOf d place e
 IsNodeOf d place (Silent conns) = (host_plan (plan_of d) place).silent ≡ true
+
+-- the nodes are the document's hosts before the first event
+pub record AreHostsOf (d : Doc) (nodes : List Node) : Type 0 where
+  pub hosts : map plain_host nodes ≡ (start_of d).hosts
+  pub nodes : (place : ℕ) (node : Node) → slice_get nodes place ≡ Some node → IsNodeOf d place node
+  pub conns : map conns_of nodes ≡ each (conns_to d) d.hosts
