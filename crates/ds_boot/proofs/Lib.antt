@@ -13,3 +13,4 @@ mod Distinct
 mod Fitting
 mod Wholes
 mod Booted
+mod Taken

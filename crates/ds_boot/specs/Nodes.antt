@@ -41,7 +41,7 @@ IsNodeOf d place (Running e) = IsExporterOf d place e
 IsNodeOf d place (Silent conns) = (host_plan (plan_of d) place).silent ≡ true
 
 -- the nodes are the document's hosts before the first event
-pub record AreHostsOf (d : Doc) (nodes : List Node) : Type 0 where
-  pub hosts : map plain_host nodes ≡ (start_of d).hosts
-  pub nodes : (place : ℕ) (node : Node) → slice_get nodes place ≡ Some node → IsNodeOf d place node
-  pub conns : map conns_of nodes ≡ each (conns_to d) d.hosts
+pub record AreHostsOf (d : Doc) (all : List Node) : Type 0 where
+  pub hosts : map plain_host all ≡ (start_of d).hosts
+  pub nodes : (place : ℕ) (node : Node) → slice_get all place ≡ Some node → IsNodeOf d place node
+  pub conns : map conns_of all ≡ each (conns_to d) d.hosts
