@@ -1,0 +1,47 @@
+-- Signers and lanes that are taken one after the other, and the hosts that begin with them.
+use Rattle.std.proofs.Common.{◌≡◌, ℕ, zero, suc, ◌+◌, ◌<◌, ◌≤◌, List, [], ◌∷◌, ◌++◌, length, length-append, map, get_or, Option, Some, None, slice_get, option_map, refl, sym, ◌∙◌, ap, subst, arith, ◌⊎◌, inl, inr}
+use Rattle.std.specs.declared.alloc.Global.{Global}
+use Rattle.std.specs.Prelude.{Vec}
+use Rattle.std.proofs.lemmas.Option.{none-some, same_Some, slice_get-map, get_or_from_slice_get}
+use Rattle.lms_state.specs.Signers.{Signing}
+use Rattle.ds_exporter.specs.declared.parts.LanePart.{LanePart}
+use Rattle.ds_exporter.specs.HostStates.{HostLane}
+use Rattle.ds_plan.specs.declared.doc.Doc.{Doc}
+use Rattle.ds_plan.specs.declared.host.HostSpec.{HostSpec}
+use Rattle.ds_setup.specs.Lists.{each}
+use Rattle.ds_setup.proofs.Places.{each_at}
+use Rattle.ds_setup.proofs.Numbers.{in_either}
+use Rattle.ds_boot.specs.declared.node.Node.{Node}
+use Rattle.ds_boot.specs.Signing.{signer_behind}
+use Rattle.ds_boot.specs.Lanes.{lanes_begun, lanes_of}
+use Rattle.ds_boot.specs.Beginnings.{IsNodeBegun}
+
+module _ {X Y : Type 0} (f : ℕ → X → Y) (xs : List X) where
+  -- the one that is taken
+  pub taken_is : (left : List Y) (i : ℕ) (d : Y) (x : X) → slice_get xs i ≡ Some x → slice_get left i ≡ slice_get (each f xs) i → get_or left i d ≡ f i x
+  taken_is left i d x e same = get_or_from_slice_get left i (f i x) d (same ∙ (each_at f xs i ∙ ap (option_map (f i)) e))
+
+pub lanes_are : (f : ℕ → HostSpec → List HostLane) (hosts : List HostSpec) (left : List (Vec LanePart Global)) (i : ℕ) (own : Vec LanePart Global) (h : HostSpec) → slice_get hosts i ≡ Some h → slice_get left i ≡ Some own →
+    slice_get (map lanes_of left) i ≡ slice_get (each f hosts) i → lanes_of own ≡ f i h
+lanes_are f hosts left i own h e at same =
+    same_Some (lanes_of own) (f i h) (sym (slice_get-map lanes_of left i ∙ ap (option_map lanes_of) at) ∙ (same ∙ (each_at f hosts i ∙ ap (option_map (f i)) e)))
+
+pub lanes_left : (old new : List (Vec LanePart Global)) (j : ℕ) → slice_get new j ≡ slice_get old j → slice_get (map lanes_of new) j ≡ slice_get (map lanes_of old) j
+lanes_left old new j same = slice_get-map lanes_of new j ∙ (ap (option_map lanes_of) same ∙ sym (slice_get-map lanes_of old j))
+
+-- one host more has begun
+pub one_more_begun : (d : Doc) (at : ℕ) (nodes new : List Node) (host : HostSpec) (made : Node) → length nodes ≡ at → new ≡ nodes ++ made ∷ [] → slice_get d.hosts at ≡ Some host → IsNodeBegun d at host made →
+    ((place : ℕ) (h : HostSpec) (node : Node) → slice_get d.hosts place ≡ Some h → slice_get nodes place ≡ Some node → IsNodeBegun d place h node) →
+    (place : ℕ) (h : HostSpec) (node : Node) → slice_get d.hosts place ≡ Some h → slice_get new place ≡ Some node → IsNodeBegun d place h node
+one_more_begun d at nodes new host made count is there begun before place h node e q = go (in_either nodes (made ∷ []) place node (subst (λ (xs : List Node). slice_get xs place ≡ Some node) is q))
+  where
+    last : (i : ℕ) → place ≡ length nodes + i → slice_get (made ∷ []) i ≡ Some node → IsNodeBegun d place h node
+    last zero same here =
+        let place_is : at ≡ place = omega (arith, same, count) in
+        let host_is : host ≡ h = same_Some host h (sym there ∙ (ap (λ k. slice_get d.hosts k) place_is ∙ e)) in
+        subst (λ k. IsNodeBegun d k h node) place_is (subst (λ (x : HostSpec). IsNodeBegun d at x node) host_is (subst (λ (x : Node). IsNodeBegun d at host x) (same_Some made node here) begun))
+    last (suc i) same here = absurd (none-some node here)
+
+    go : (slice_get nodes place ≡ Some node) ⊎ ((i : ℕ) × (place ≡ length nodes + i) × (slice_get (made ∷ []) i ≡ Some node)) → IsNodeBegun d place h node
+    go (inl in_front) = before place h node e in_front
+    go (inr (i, same, here)) = last i same here

@@ -1,0 +1,16 @@
+use Rattle.std.proofs.Common.{◌≤◌, ◌+◌, ◌∙◌, ap, [], map, length, arith}
+use Rattle.ds_plan.specs.declared.host.HostSpec.{HostSpec}
+use Rattle.ds_setup.specs.Starts.{own_address}
+use Rattle.ds_boot.specs.Signing.{signer_behind}
+use Rattle.ds_boot.specs.Lanes.{lanes_begun, lanes_of}
+use Rattle.ds_boot.proofs.Lists.{each_grows, flat_grows, behind_set, length_set}
+use Rattle.ds_boot.proofs.begun.begin_hosts.Goals as goal
+
+pub loop-at-preserved : goal.loop-at-preserved
+loop-at-preserved c = record {
+  signers = each_grows (signer_behind []) c.args.hosts.now c.loop-at.at _ c.loop-at.begun.signers.items c.begin_host.new.begun.signers.items c.index-hosts-at.result c.loop-at-test.true c.in_ok-begin_host.ensures.signers c.index-hosts-at.is c.loop-at.invariant.signers;
+  addresses = flat_grows (λ (h : HostSpec). own_address h.identity h.secret h.address) c.args.hosts.now c.loop-at.at _ c.loop-at.begun.addresses.items c.begin_host.new.begun.addresses.items c.index-hosts-at.result c.loop-at-test.true c.in_ok-begin_host.ensures.addresses c.index-hosts-at.is c.loop-at.invariant.addresses;
+  lanes = each_grows (lanes_begun c.args.keys.now) c.args.hosts.now c.loop-at.at _ (map lanes_of c.loop-at.begun.lanes.items) (map lanes_of c.begin_host.new.begun.lanes.items) c.index-hosts-at.result c.loop-at-test.true c.in_ok-begin_host.ensures.lanes c.index-hosts-at.is c.loop-at.invariant.lanes;
+  count = rw c.take_tree-tree.ensures.rest (length_set c.loop-at.trees c.loop-at.at _ ∙ c.loop-at.invariant.count);
+  trees = λ j le. rw c.take_tree-tree.ensures.rest (behind_set c.loop-at.trees c.loop-at.at j _ le ∙ c.loop-at.invariant.trees j (omega (arith, le)));
+}

@@ -1,0 +1,17 @@
+//! A document's hosts as exporters, as they are before the first event.
+#![tactic(auto)]
+
+mod begun;
+mod booting;
+mod certs;
+mod conns;
+mod desks;
+mod hosts;
+mod keys;
+mod lanes;
+mod node;
+mod procs;
+mod signing;
+
+pub use booting::{boot, boot_keyed};
+pub use node::{Node, NodeList};
