@@ -3,3 +3,4 @@ pub mod Signing
 pub mod Lanes
 pub mod Desks
 pub mod Parts
+pub mod Begun
