@@ -3,3 +3,4 @@ mod Rows
 mod Kept
 mod Signers
 mod OwnParts
+mod BegunLists

@@ -4,3 +4,4 @@ pub mod Lanes
 pub mod Desks
 pub mod Parts
 pub mod Begun
+pub mod Beginnings

@@ -7,5 +7,8 @@ mod conns;
 mod desks;
 mod keys;
 mod lanes;
+mod laws;
 mod procs;
 mod signing;
+
+pub use laws::hosts_begin_so;

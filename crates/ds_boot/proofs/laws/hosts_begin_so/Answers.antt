@@ -1,0 +1,1 @@
+use Rattle.ds_boot.proofs.BegunLists as lists
