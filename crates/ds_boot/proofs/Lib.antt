@@ -4,3 +4,5 @@ mod Kept
 mod Signers
 mod OwnParts
 mod BegunLists
+mod BegunFacts
+mod BegunLanes
