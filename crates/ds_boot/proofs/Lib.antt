@@ -6,3 +6,6 @@ mod OwnParts
 mod BegunLists
 mod BegunFacts
 mod BegunLanes
+mod BegunInlets
+mod BegunConns
+mod BegunNames

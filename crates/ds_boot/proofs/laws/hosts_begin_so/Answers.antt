@@ -1,3 +1,4 @@
-use Rattle.ds_boot.proofs.BegunLists as lists
-use Rattle.ds_boot.proofs.BegunFacts as facts
+use Rattle.ds_boot.proofs.BegunInlets as inlets
+use Rattle.ds_boot.proofs.BegunConns as conns
+use Rattle.ds_boot.proofs.BegunNames as named
 use Rattle.ds_boot.proofs.BegunLanes as lanes
