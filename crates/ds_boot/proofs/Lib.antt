@@ -9,3 +9,5 @@ mod BegunLanes
 mod BegunInlets
 mod BegunConns
 mod BegunNames
+mod BegunFits
+mod BegunWorlds

@@ -1,4 +1,15 @@
-use Rattle.ds_boot.proofs.BegunInlets as inlets
-use Rattle.ds_boot.proofs.BegunConns as conns
-use Rattle.ds_boot.proofs.BegunNames as named
-use Rattle.ds_boot.proofs.BegunLanes as lanes
+use Rattle.ds_boot.proofs.BegunFits.{begun_before, begun_fits}
+use Rattle.ds_boot.proofs.BegunWorlds.{begun_host, begun_site}
+use Rattle.ds_boot.proofs.laws.hosts_begin_so.Goals as goal
+
+pub returns-clause-fit : goal.returns-clause-fit
+returns-clause-fit c = begun_fits
+
+pub returns-clause-host : goal.returns-clause-host
+returns-clause-host c = begun_host
+
+pub returns-clause-site : goal.returns-clause-site
+returns-clause-site c = begun_site
+
+pub returns-clause-before : goal.returns-clause-before
+returns-clause-before c = begun_before
