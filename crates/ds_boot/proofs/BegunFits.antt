@@ -35,8 +35,8 @@ use Rattle.ds_setup.proofs.Places.{Every, every_each, every_map, one_place, test
 use Rattle.ds_boot.specs.Parts.{box_begun, inlet_begun, process_begun, usable_of}
 use Rattle.ds_boot.specs.Lanes.{lane_begun}
 use Rattle.ds_boot.specs.Desks.{IsDeskOf}
-use Rattle.ds_boot.specs.Begun.{host_begun}
-use Rattle.ds_boot.specs.Beginnings.{EachHostFits, EachIsBefore, IsRunning}
+use Rattle.ds_boot.specs.Beginnings.{state_begun}
+use Rattle.ds_boot.specs.Begun.{EachHostFits, EachIsBefore, IsRunning}
 use Rattle.ds_boot.proofs.Lists.{there_at}
 use Rattle.ds_boot.proofs.Rows.{row_known}
 use Rattle.ds_boot.proofs.Signers.{key_count}
@@ -101,7 +101,7 @@ module _ (d : Doc) (place : ℕ) (h : HostSpec) (k : DeskView) (is : IsRunning d
   reaching = every_proc (Reaches (length (host_keys d.hosts))) (λ i p e.
       subst (λ n. All (OpReaches n) p.script) (sym (key_count d.hosts)) (all_from (OpReaches (length d.hosts)) p.script (script_reaches d is.document place h is.there i p e)))
 
-  leading : All (LeadsTo k.here (map name_of_inlet (map inlet_begun (inlets_of d.hosts place h)))) (host_begun d place h k).conns
+  leading : All (LeadsTo k.here (map name_of_inlet (map inlet_begun (inlets_of d.hosts place h)))) (state_begun d place h k).conns
   leading = each_new place (host_key h) (inlets_of d.hosts place h) _ (LeadsTo k.here (map name_of_inlet (map inlet_begun (inlets_of d.hosts place h))))
       (λ number. record { here = sym is.desk.here; inlets = sym (map_back name_of_inlet inlet_begun (inlets_of d.hosts place h) (λ name. refl)) })
 
@@ -132,7 +132,7 @@ module _ (d : Doc) (place : ℕ) (h : HostSpec) (k : DeskView) (is : IsRunning d
 
   -- ---- all of them
 
-  fits : IsFit (host_begun d place h k)
+  fits : IsFit (state_begun d place h k)
   fits = record {
     desk = is.desk.replay;
     place = own_key;
@@ -157,7 +157,7 @@ module _ (d : Doc) (place : ℕ) (h : HostSpec) (k : DeskView) (is : IsRunning d
     hellos = each_new place (host_key h) (inlets_of d.hosts place h) _ HasHelloFirst (λ number none. (refl, refl));
   }
 
-  before : IsBefore 1 (host_begun d place h k)
+  before : IsBefore 1 (state_begun d place h k)
   before = record {
     desk =
         let last : last_of_desk k ≡ 0 = ap (λ (history : List DeskEntry). last_of stamp_of k.opening.before history) is.desk.history ∙ is.desk.before in

@@ -35,8 +35,8 @@ use Rattle.ds_setup.proofs.Places.{all_at}
 use Rattle.ds_setup.proofs.Setups.{plan_host}
 use Rattle.ds_boot.specs.Parts.{box_begun, inlet_begun, process_begun, usable_of}
 use Rattle.ds_boot.specs.Lanes.{lane_begun}
-use Rattle.ds_boot.specs.Begun.{host_begun}
-use Rattle.ds_boot.specs.Beginnings.{EachHostIsSetup, EachSiteIsPlanned, IsRunning}
+use Rattle.ds_boot.specs.Beginnings.{state_begun}
+use Rattle.ds_boot.specs.Begun.{EachHostIsSetup, EachSiteIsPlanned, IsRunning}
 use Rattle.ds_boot.proofs.BegunLists.{map_again, map_back, map_each, map_places}
 use Rattle.ds_boot.proofs.BegunLanes.{cert_is, identity_signs, key_is}
 use Rattle.ds_boot.proofs.BegunNames.{box_known, has_labels, names_again, proc_known, table_is}
@@ -86,7 +86,7 @@ module _ (d : Doc) (place : ℕ) (h : HostSpec) (k : DeskView) (is : IsRunning d
   same_desk : k.desk ≡ start_desk d place h
   same_desk = is.desk.desk ∙ sym (cond-false (is_silent h.secret) empty_desk (running_desk d place h) is.runs)
 
-  host : host_of (host_begun d place h k) ≡ start_host d place h
+  host : host_of (state_begun d place h k) ≡ start_host d place h
   host =
       let desk = same_desk in
       let procs = under_desk d place h k is (λ key rows. map (plain_process key rows) (map (process_begun (host_key h) h.map) h.procs) ≡ map (process_of h.map) h.procs) same_processes in
@@ -102,7 +102,7 @@ module _ (d : Doc) (place : ℕ) (h : HostSpec) (k : DeskView) (is : IsRunning d
   keys_are : host_keys d.hosts ≡ all_keys (plan_of d)
   keys_are = sym (map_places (λ (x : HostSetup). x.key) (host_setup_of d.hosts) host_key d.hosts (λ i x. refl))
 
-  site : site_of (host_begun d place h k) ≡ host_plan (plan_of d) place
+  site : site_of (state_begun d place h k) ≡ host_plan (plan_of d) place
   site =
       let key = is.desk.here in
       let silent = sym is.runs in
@@ -112,7 +112,7 @@ module _ (d : Doc) (place : ℕ) (h : HostSpec) (k : DeskView) (is : IsRunning d
       let boxes = under_desk d place h k is (λ key rows. map (plan_of_box key rows) (map (box_begun (host_key h) h.map) h.boxes) ≡ map box_plan_of h.boxes) same_boxes in
       let lanes = map_each plan_of_lane (lane_begun (host_keys d.hosts) place h) (lane_plan_of d.hosts h) h.lanes (λ l lane e. same_lane_plan l lane) in
       let inlets = map_back name_of_inlet inlet_begun (inlets_of d.hosts place h) (λ name. refl) in
-      let same : site_of (host_begun d place h k) ≡ with_keys (all_keys (plan_of d)) (host_setup_of d.hosts place h) =
+      let same : site_of (state_begun d place h k) ≡ with_keys (all_keys (plan_of d)) (host_setup_of d.hosts place h) =
       λ j. record { key = key j; silent = silent j; signing = signing j; keys = keys j; procs = procs j; boxes = boxes j; lanes = lanes j; inlets = inlets j } in
       same ∙ sym (plan_host d place h is.there)
 

@@ -3,6 +3,9 @@ mod Rows
 mod Kept
 mod Signers
 mod OwnParts
+mod Rooms
+mod DeskFacts
+mod Inlets
 mod BegunLists
 mod BegunFacts
 mod BegunLanes

@@ -120,3 +120,14 @@ pub length_set : {A : Type 0} (xs : List A) (i : ℕ) (v : A) → length (slice_
 length_set [] i v = refl
 length_set (x ∷ xs) zero v = refl
 length_set (x ∷ xs) (suc i) v = ap suc (length_set xs i v)
+
+-- one item more of a mapped list behind others
+pub map_grows : {B C : Type 0} (g : B → C) (xs : List B) (i : ℕ) (d : B) (first items new : List C) (y : B) → i < length xs → new ≡ items ++ g y ∷ [] → y ≡ get_or xs i d → items ≡ first ++ map g (take i xs) → new ≡ first ++ map g (take (i + 1) xs)
+map_grows {B} {C} g xs i d first items new y lt is item so_far =
+    is ∙ (ap (λ (z : B). items ++ g z ∷ []) item ∙ (ap (λ (ys : List C). ys ++ g (get_or xs i d) ∷ []) so_far
+    ∙ (append_assoc first (map g (take i xs)) (g (get_or xs i d) ∷ [])
+    ∙ ap (λ (ys : List C). first ++ ys) (sym (map-append g (take i xs) (get_or xs i d ∷ [])) ∙ ap (λ (ys : List B). map g ys) (sym (take_more xs i (get_or xs i d) (there_at xs i d lt)))))))
+
+pub flat_is_joined : {B C : Type 0} (g : B → List C) (xs : List B) → flat_map g xs ≡ joined (map g xs)
+flat_is_joined g [] = refl
+flat_is_joined {B} {C} g (x ∷ xs) = ap (λ (ys : List C). g x ++ ys) (flat_is_joined g xs)

@@ -4,6 +4,7 @@ use Rattle.std.specs.Prelude.{slice_set}
 use Rattle.lms_sig.specs.declared.params.Params.{Params}
 use Rattle.lms_sig.specs.Keys.{Key, derived_seed, derived_id}
 use Rattle.lms_sig.specs.Merkle.{public_key}
+use Rattle.lms_state.specs.Signers.{Signing}
 use Rattle.ds_label.specs.declared.category.PubKey.{PubKey}
 use Rattle.ds_cert.specs.declared.address.Address.{Address}
 use Rattle.ds_plan.specs.declared.host.HostSpec.{HostSpec}
@@ -25,3 +26,14 @@ own_address_is identity (Public key) text runs = absurd cc
 pub no_address_is : (identity : Params) (s : Secret) → own_address identity s None ≡ []
 no_address_is identity (Seed secret) = refl
 no_address_is identity (Public key) = refl
+
+-- a running host's public key is its identity key's
+pub running_key : (identity : Params) (s : Secret) → is_silent s ≡ false →
+    record { 0 = public_key (tree_or_none (identity_of identity s)).params (tree_or_none (identity_of identity s)).seed (tree_or_none (identity_of identity s)).id } ≡ key_of identity s
+running_key identity (Seed secret) runs = refl
+running_key identity (Public key) runs = absurd cc
+
+-- what a signer of that key shows
+pub key_shown : (h : HostSpec) (leaf : ℕ) (signing : Signing) (shown : List ℕ) → is_silent h.secret ≡ false → signing ≡ signing_at leaf (identity_tree h) → shown ≡ public_key signing.key.params signing.key.seed signing.key.id → record { 0 = shown } ≡ host_key h
+key_shown h leaf signing shown runs is e =
+    ap (λ (bytes : List ℕ). record { 0 = bytes }) (e ∙ ap (λ (s : Signing). public_key s.key.params s.key.seed s.key.id) is) ∙ running_key h.identity h.secret runs

@@ -1,42 +1,29 @@
--- What holds of each running host of a document as it begins.
-use Rattle.std.specs.Prelude.{◌≡◌, ℕ, false, slice_get, Some}
-use Rattle.ds_model.specs.Plan.{host_plan}
-use Rattle.ds_plan.specs.declared.doc.Doc.{Doc}
-use Rattle.ds_plan.specs.declared.host.HostSpec.{HostSpec}
-use Rattle.ds_plan.specs.Documents.{IsDocument, is_silent}
-use Rattle.ds_setup.specs.Plans.{plan_of}
-use Rattle.ds_setup.specs.Starts.{start_host}
+-- An exporter before the first event: its parts, as the document says them.
+use Rattle.std.specs.Prelude.{◌≡◌, ℕ, map}
 use Rattle.ds_desk.specs.Desks.{DeskView}
 use Rattle.ds_exporter.specs.HostStates.{HostState}
-use Rattle.ds_exporter.specs.PlainHosts.{host_of, site_of}
-use Rattle.ds_exporter.specs.Conditions.{IsFit}
-use Rattle.ds_exporter.specs.Stamping.{IsBefore}
+use Rattle.ds_plan.specs.declared.doc.Doc.{Doc}
+use Rattle.ds_plan.specs.declared.host.HostSpec.{HostSpec}
+use Rattle.ds_plan.specs.Keys.{host_key, host_keys}
+use Rattle.ds_setup.specs.Plans.{inlets_of}
 use Rattle.ds_boot.specs.Desks.{IsDeskOf}
-use Rattle.ds_boot.specs.Begun.{host_begun}
+use Rattle.ds_boot.specs.Lanes.{lanes_begun}
+use Rattle.ds_boot.specs.Parts.{box_begun, conns_to, inlet_begun, process_begun}
 
--- the document has the host at that place; it runs, and the desk is its own
-pub record IsRunning (d : Doc) (place : ℕ) (h : HostSpec) (k : DeskView) : Type 0 where
-  pub document : IsDocument d
-  pub there : slice_get d.hosts place ≡ Some h
-  pub runs : is_silent h.secret ≡ false
-  pub desk : IsDeskOf d place h k
+-- a running host at a place, with that desk
+abbrev pub state_begun : Doc → (place : ℕ) → HostSpec → DeskView → HostState
+state_begun d place h k = record {
+  host = place;
+  keys = host_keys d.hosts;
+  desk = k;
+  procs = map (process_begun (host_key h) h.map) h.procs;
+  boxes = map (box_begun (host_key h) h.map) h.boxes;
+  lanes = lanes_begun (host_keys d.hosts) place h;
+  inlets = map inlet_begun (inlets_of d.hosts place h);
+  conns = conns_to d place h;
+}
 
--- so it is of each such host
-abbrev pub OfEachHost : (Doc → ℕ → HostSpec → HostState → Type 0) → Type 0
-OfEachHost P = (d : Doc) (place : ℕ) (h : HostSpec) (k : DeskView) → IsRunning d place h k → P d place h (host_begun d place h k)
-
--- its parts fit together
-abbrev pub EachHostFits : Type 0
-EachHostFits = OfEachHost (λ d place h e. IsFit e)
-
--- it is what setup has
-abbrev pub EachHostIsSetup : Type 0
-EachHostIsSetup = OfEachHost (λ d place h e. host_of e ≡ start_host d place h)
-
--- at the site that the plan has
-abbrev pub EachSiteIsPlanned : Type 0
-EachSiteIsPlanned = OfEachHost (λ d place h e. site_of e ≡ host_plan (plan_of d) place)
-
--- and nothing is entered
-abbrev pub EachIsBefore : Type 0
-EachIsBefore = OfEachHost (λ d place h e. IsBefore 1 e)
+-- the desk is what setup says, and all other parts are the document's
+pub record IsBegun (d : Doc) (place : ℕ) (h : HostSpec) (e : HostState) : Type 0 where
+  pub desk : IsDeskOf d place h e.desk
+  pub state : e ≡ state_begun d place h e.desk

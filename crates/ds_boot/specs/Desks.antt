@@ -1,11 +1,16 @@
 -- A running host's desk before the first event.
-use Rattle.std.specs.Prelude.{◌≡◌, ℕ, List, [], if◌then◌else◌}
+use Rattle.std.specs.Prelude.{◌≡◌, ℕ, ◌<◌, ◌^◌, List, [], if◌then◌else◌}
 use Rattle.std.specs.List.{fold}
 use Rattle.ds_cert.specs.declared.address.Address.{Address}
 use Rattle.ds_cert.specs.declared.delegation.Delegation.{Delegation}
+use Rattle.ds_cert.specs.declared.cert.Cert.{Cert}
+use Rattle.ds_cert.specs.declared.cert.Cert.TheVariants as certs
+use Rattle.ds_cert.specs.Ranges.{KeyFits}
 use Rattle.ds_cert.specs.NoDoubles.{with_address, with_delegation}
 use Rattle.ds_plan.specs.declared.doc.Doc.{Doc}
 use Rattle.ds_plan.specs.declared.host.HostSpec.{HostSpec}
+use Rattle.ds_plan.specs.declared.cert.CertSpec.{CertSpec}
+use Rattle.ds_plan.specs.declared.cert.CertSpec.TheVariants.{Made, Given}
 use Rattle.ds_plan.specs.Keys.{host_key}
 use Rattle.ds_plan.specs.Documents.{is_among}
 use Rattle.ds_desk.specs.Desks.{DeskView, IsReplay}
@@ -38,3 +43,18 @@ pub record IsDeskOf (d : Doc) (place : ℕ) (h : HostSpec) (k : DeskView) : Type
   pub replay : IsReplay k
   pub before : k.opening.before ≡ 0
   pub history : k.history ≡ []
+
+-- WHAT THE CODE'S TYPES SAY OF A CERTIFICATE THAT STANDS IN A DOCUMENT
+
+pub record IsTypedAddress (a : Address) : Type 0 where
+  pub exporter : KeyFits a.exporter
+  pub from : a.from < 2 ^ 64
+  pub until : a.until < 2 ^ 64
+
+abbrev pub IsTypedCert : Cert → Type 0
+IsTypedCert (certs.Delegation d) = Unit {0}
+IsTypedCert (certs.Address a) = IsTypedAddress a
+
+abbrev pub IsTyped : CertSpec → Type 0
+IsTyped (Made by category to from until at) = Unit {0}
+IsTyped (Given cert at) = IsTypedCert cert

@@ -3,5 +3,6 @@ pub mod Signing
 pub mod Lanes
 pub mod Desks
 pub mod Parts
-pub mod Begun
 pub mod Beginnings
+pub mod Nodes
+pub mod Begun

@@ -1,5 +1,5 @@
 -- A running host's processes, mailboxes, inlets and connections before the first event.
-use Rattle.std.specs.Prelude.{◌≡◌, ℕ, ◌==◌, if◌then◌else◌, List, [], ◌∷◌, ◌++◌, map, flat_map, None, IsTrue}
+use Rattle.std.specs.Prelude.{◌≡◌, ℕ, ◌<◌, ◌≤◌, ◌==◌, All, length, if◌then◌else◌, List, [], ◌∷◌, ◌++◌, map, flat_map, None, IsTrue}
 use Rattle.ds_label.specs.declared.category.PubKey.{PubKey}
 use Rattle.ds_label.specs.declared.category.Category.{Category}
 use Rattle.ds_script.specs.declared.actor.Actor.{Actor}
@@ -74,3 +74,9 @@ conn_begun place key names number to =
 -- the connections to a host, in the order of their numbers
 abbrev pub conns_to : Doc → (place : ℕ) → HostSpec → List Connection
 conns_to d place h = joined (each (conn_begun place (host_key h) (inlets_of d.hosts place h)) (ends_of d))
+
+-- what a document sees to of a host's inlets
+pub record HasInlets (hosts : ℕ) (h : HostSpec) : Type 0 where
+  pub lanes : length h.lanes ≤ 32
+  pub declared : length h.inlets ≤ 64
+  pub from : All (λ i. i.from < hosts) h.inlets

@@ -1,7 +1,7 @@
 //! A host's inlets, and the connections to it.
 #![tactic(auto)]
 
-ghost use Rattle.std.specs.Prelude.{List, ◌∷◌, ◌≡◌, ◌++◌, ◌+◌, ◌<◌, ◌≤◌, ◌^◌, [], map, length, flat_map, IfOk, OnOk, Some, slice_get};
+ghost use Rattle.std.specs.Prelude.{All, List, ◌∷◌, ◌≡◌, ◌++◌, ◌+◌, ◌<◌, ◌≤◌, ◌^◌, [], map, length, flat_map, IfOk, OnOk, Some, slice_get};
 ghost use Rattle.ds_model.specs.Scheme.{InletName as Name};
 ghost use Rattle.ds_plan.specs.declared.host.HostSpec.{HostSpec};
 ghost use Rattle.ds_plan.specs.Keys.{host_key, host_keys};
@@ -9,12 +9,12 @@ ghost use Rattle.ds_plan.specs.Documents.{IsDocument, is_silent};
 ghost use Rattle.ds_setup.specs.Lists.{each, joined};
 ghost use Rattle.ds_setup.specs.Plans.{declared_inlet, inlets_from, inlets_of, lane_inlet};
 ghost use Rattle.ds_exporter.specs.HostStates.{connection_of, inlet_of};
-ghost use Rattle.ds_boot.specs.Parts.{conn_begun, conns_to, ends_of, inlet_begun, lane_ends};
+ghost use Rattle.ds_boot.specs.Parts.{HasInlets, conn_begun, conns_to, ends_of, inlet_begun, lane_ends};
 
 use ds_exporter::{ConnList, InletList};
 use ds_inlet::{Conn, Inlet, InletName, InletNames};
 use ds_label::PubKey;
-use ds_plan::{Doc, HostSpec, InletSpec, LaneSpec};
+use ds_plan::{Doc, HostSpec, InletSpec, LaneSpec, Secret};
 use ds_script::{Actor, ActorKind};
 use std::alloc::{AllocError, Global};
 
@@ -94,12 +94,93 @@ fn push_declared(
     requires there { inlet.now.from < length keys.now }
     requires room { length names.old < 1024 }
     ensures ok { (hosts : List HostSpec) → keys.now ≡ host_keys hosts → OnOk result (names.new ≡ names.old ++ declared_inlet hosts inlet.now ∷ []) }
+    ensures more { OnOk result (length names.new ≤ length names.old + 1) }
 {
     let exporter = keys[inlet.from as usize];
     names.push(InletName {
         exporter,
         lane: inlet.lane,
     })
+}
+
+/// The inlets of all hosts' lanes that lead to the host at a place. `AllocError` where memory runs out.
+fn lane_names(
+    alloc: Global,
+    hosts: &[HostSpec],
+    keys: &[PubKey],
+    here: u32,
+) -> Result<InletNames, AllocError>
+    requires few { length hosts.now ≤ 16 }
+    requires keys { keys.now ≡ host_keys hosts.now }
+    requires lanes { All (λ h. length h.lanes ≤ 32) hosts.now }
+    ensures names { IfOk result (λ names. names ≡ flat_map (inlets_from here) hosts.now) }
+    ensures few { IfOk result (λ names. length names ≤ 512) }
+{
+    let mut names = InletNames::new(alloc);
+    for (place, host) in hosts.iter().enumerate() {
+        push_lane_inlets(&mut names, keys[place], here, host, host.lanes.as_slice())?;
+    }
+    Ok(names)
+}
+
+/// Appends the declared inlets.
+fn push_each_declared(
+    names: &mut InletNames,
+    keys: &[PubKey],
+    inlets: &[InletSpec],
+) -> Result<(), AllocError>
+    requires there { All (λ i. i.from < length keys.now) inlets.now }
+    requires few { length inlets.now ≤ 64 }
+    requires room { length names.old ≤ 512 }
+    ensures ok { (hosts : List HostSpec) → keys.now ≡ host_keys hosts → OnOk result (names.new ≡ names.old ++ map (declared_inlet hosts) inlets.now) }
+{
+    for inlet in inlets {
+        push_declared(names, keys, inlet)?;
+    }
+    Ok(())
+}
+
+/// The names of the inlets of a running host: those of all hosts' lanes to it, and then the declared ones.
+fn running_names(
+    alloc: Global,
+    hosts: &[HostSpec],
+    keys: &[PubKey],
+    here: u32,
+    inlets: &[InletSpec],
+) -> Result<InletNames, AllocError>
+    requires few { length hosts.now ≤ 16 }
+    requires keys { keys.now ≡ host_keys hosts.now }
+    requires lanes { All (λ h. length h.lanes ≤ 32) hosts.now }
+    requires there { All (λ i. i.from < length keys.now) inlets.now }
+    requires few_inlets { length inlets.now ≤ 64 }
+    ensures { IfOk result (λ names. names ≡ flat_map (inlets_from here) hosts.now ++ map (declared_inlet hosts.now) inlets.now) }
+{
+    let mut names = lane_names(alloc, hosts, keys, here)?;
+    push_each_declared(&mut names, keys, inlets)?;
+    Ok(names)
+}
+
+/// The names of the inlets of the host at a place, in order. `AllocError` where memory runs out.
+pub fn inlet_names(
+    alloc: Global,
+    hosts: &[HostSpec],
+    keys: &[PubKey],
+    here: u32,
+    host: &HostSpec,
+) -> Result<InletNames, AllocError>
+    requires few { length hosts.now ≤ 16 }
+    requires keys { keys.now ≡ host_keys hosts.now }
+    requires lanes { All (λ h. length h.lanes ≤ 32) hosts.now }
+    requires own { HasInlets (length keys.now) host.now }
+    ensures { IfOk result (λ names. names ≡ inlets_of hosts.now here host.now) }
+{
+    match &host.secret {
+        Secret::Seed(_) => {
+            let names = running_names(alloc, hosts, keys, here, host.inlets.as_slice())?;
+            Ok(names)
+        }
+        Secret::Key(_) => Ok(InletNames::new(alloc)),
+    }
 }
 
 /// The inlet with the name at a place, of which no frame was taken.

@@ -2,6 +2,7 @@
 #![tactic(auto)]
 
 ghost use Rattle.std.specs.Prelude.{◌≡◌, ◌++◌, ◌+◌, ◌≤◌, ◌<◌, true, false, [], ◌∷◌, length, flat_map, IfOk, OnOk, Some, slice_get, All};
+ghost use Rattle.std.specs.List.{AllByRecursion};
 ghost use Rattle.ds_label.specs.Flow.{has};
 ghost use Rattle.ds_label.specs.Names.{by_name};
 ghost use Rattle.ds_cert.specs.NoDoubles.{with_address, with_delegation};
@@ -11,16 +12,16 @@ ghost use Rattle.ds_plan.specs.Keys.{host_key, same_key};
 ghost use Rattle.ds_plan.specs.Documents.{IsDocument, are_rows, is_among as is_among_of, is_silent};
 ghost use Rattle.ds_setup.specs.Signed.{doc_certs, leaf_behind};
 ghost use Rattle.ds_setup.specs.Starts.{addresses_in, delegations_in, is_by as is_by_host, own_addresses};
-ghost use Rattle.ds_boot.specs.Desks.{IsDeskOf, addresses_for, delegations_for, issued_for, with_addresses, with_delegations};
+ghost use Rattle.ds_boot.specs.Desks.{IsDeskOf, IsTyped, IsTypedAddress, IsTypedCert, addresses_for, delegations_for, issued_for, with_addresses, with_delegations};
 ghost use Rattle.ds_boot.specs.Signers.{identity_tree, signing_at};
 
 use crate::certs::KeptCert;
-use ds_cert::{Address, Cert, Delegation};
+use ds_cert::{Address, Cert, Delegation, show_key};
 use ds_chain::{AddressList, CertList, ListFault};
 use ds_desk::{DeskState, IssuedList};
 use ds_label::{Category, PubKey};
 use ds_map::{MapFault, MapTable};
-use ds_plan::{Doc, HostSpec, PlaceList};
+use ds_plan::{CertSpec, Doc, HostSpec, PlaceList};
 use lms_state::Signer;
 use std::alloc::{AllocError, Global};
 
@@ -211,4 +212,73 @@ fn issued_of(alloc: Global, place: u32, certs: &[KeptCert]) -> Result<IssuedList
         issue_cert(&mut issued, place, kept)?;
     }
     Ok(issued)
+}
+
+// ---- the desk
+
+/// What its type says of an address certificate. It does nothing.
+fn show_address(address: &Address)
+    ensures { IsTypedAddress address.now }
+{
+    show_key(&address.exporter);
+    let _from = address.from;
+    let _until = address.until;
+}
+
+/// What its type says of a certificate. It does nothing.
+fn show_cert(cert: &Cert)
+    ensures { IsTypedCert cert.now }
+{
+    match cert {
+        Cert::Delegation(_) => {}
+        Cert::Address(address) => show_address(address),
+    }
+}
+
+/// What its type says of a certificate of the document. It does nothing.
+fn show_spec(spec: &CertSpec)
+    ensures { IsTyped spec.now }
+{
+    match spec {
+        CertSpec::Made { .. } => {}
+        CertSpec::Given { cert, .. } => show_cert(cert),
+    }
+}
+
+/// What their types say of the document's certificates. It does nothing.
+fn show_specs(specs: &[CertSpec])
+    ensures { AllByRecursion IsTyped specs.now }
+{
+    for spec in specs {
+        show_spec(spec);
+    }
+}
+
+/// The desk of the running host at a place, whose key is behind all that it signs: it keeps what the document says, and
+/// nothing is entered. `AllocError` where memory runs out.
+pub fn begin_desk(
+    alloc: Global,
+    doc: &Doc,
+    place: u32,
+    host: &HostSpec,
+    own: &[Address],
+    certs: &[KeptCert],
+    signer: Signer,
+) -> Result<DeskState, AllocError>
+    requires document { IsDocument doc.now }
+    requires there { slice_get doc.now.hosts place ≡ Some host.now }
+    requires runs { is_silent host.now.secret ≡ false }
+    requires own { own.now ≡ own_addresses doc.now.hosts }
+    requires certs { certs.now ≡ doc_certs doc.now.hosts doc.now.certs }
+    requires signer { signer ≡ signing_at (leaf_behind host.now place doc.now.certs) (identity_tree host.now) }
+    ensures { IfOk result (λ s. IsDeskOf doc.now place host.now (kept_of s)) }
+{
+    show_specs(doc.certs.as_slice());
+    let here = PubKey(signer.public());
+    let table = table_of(alloc, here, host.map.as_slice())?;
+    let store = store_of(alloc, place, certs)?;
+    let addresses = addresses_of(alloc, place, own, certs)?;
+    let issued = issued_of(alloc, place, certs)?;
+    let desk = DeskState::new(here, doc.moment, store, addresses, issued, table, signer)?;
+    Ok(desk)
 }

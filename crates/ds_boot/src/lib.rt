@@ -8,7 +8,9 @@ mod desks;
 mod keys;
 mod lanes;
 mod laws;
+mod node;
 mod procs;
 mod signing;
 
 pub use laws::hosts_begin_so;
+pub use node::{Node, NodeList};
