@@ -14,3 +14,4 @@ mod BegunConns
 mod BegunNames
 mod BegunFits
 mod BegunWorlds
+mod BegunNodes

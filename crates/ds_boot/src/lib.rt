@@ -12,5 +12,5 @@ mod node;
 mod procs;
 mod signing;
 
-pub use laws::hosts_begin_so;
+pub use laws::{connections_begin_so, hosts_begin_so, silent_hosts_begin_so};
 pub use node::{Node, NodeList};
