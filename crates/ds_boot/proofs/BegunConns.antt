@@ -1,5 +1,5 @@
 -- The connections of a host that begins.
-use Rattle.std.proofs.Common.{◌≡◌, ℕ, ◌<◌, Bool, true, false, cond, List, [], ◌∷◌, length, Option, Some, None, slice_get, refl, sym, ◌∙◌, ap, subst, arith, eqb}
+use Rattle.std.proofs.Common.{ℕ, List, eqb}
 use Rattle.std.specs.Prelude.{All, AllPairs}
 use Rattle.ds_label.specs.declared.category.PubKey.{PubKey}
 use Rattle.ds_model.specs.Scheme.{InletName}

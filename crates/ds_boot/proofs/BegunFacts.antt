@@ -1,6 +1,5 @@
 -- What a document that was read keeps of a host: sizes, keys, and which hosts are named.
-use Rattle.std.proofs.Common.{◌≡◌, ℕ, zero, suc, ◌+◌, ◌<◌, ◌≤◌, Bool, true, false, List, [], ◌∷◌, ◌++◌, length, map, Option, Some, None, slice_get, option_map, refl, sym, ◌∙◌, ap, subst, arith}
-use Rattle.std.specs.Prelude.{◌&&◌, All}
+use Rattle.std.proofs.Common.{◌≡◌, ℕ, ◌≤◌, true, List, ◌++◌, length, map, Some, slice_get, option_map, sym, ◌∙◌, ap}
 use Rattle.std.specs.List.{list_all, flat_map}
 use Rattle.std.proofs.lemmas.Bool.{and_parts, ltb-true, leb-true}
 use Rattle.std.proofs.lemmas.Option.{slice_get-map}
@@ -19,7 +18,7 @@ use Rattle.ds_plan.specs.Categories.{is_place}
 use Rattle.ds_plan.specs.Documents.{IsDocument, has_host_sizes, is_address_if_some, named_hosts, op_hosts, script_hosts}
 use Rattle.ds_setup.specs.Keys.{key_at}
 use Rattle.ds_setup.proofs.Places.{Every, test_at, test_append, test_flat, inside, one_place}
-use Rattle.ds_setup.proofs.Facts.{key_there, leads}
+use Rattle.ds_setup.proofs.Facts.{key_there}
 
 -- how much a host has, and its address
 pub record HostSizes (h : HostSpec) : Type 0 where

@@ -1,25 +1,23 @@
 -- A host that begins: its parts fit together, and nothing is entered.
-use Rattle.std.proofs.Common.{◌≡◌, ◌≢◌, ℕ, ◌+◌, ◌^◌, ◌<◌, ◌≤◌, Bool, true, false, cond, List, [], ◌∷◌, length, map, get_or, Option, Some, None, slice_get, option_map, refl, sym, ◌∙◌, ap, subst, arith, eqb}
-use Rattle.std.specs.Prelude.{All, AllPairs, IsTrue}
+use Rattle.std.proofs.Common.{◌≡◌, ℕ, ◌^◌, ◌<◌, ◌≤◌, true, List, length, map, get_or, Some, None, slice_get, option_map, refl, sym, ◌∙◌, ap, subst, arith, eqb}
+use Rattle.std.specs.Prelude.{All, AllPairs}
 use Rattle.std.specs.List.{list_all}
 use Rattle.std.proofs.lemmas.List.{length-map}
 use Rattle.std.proofs.lemmas.Bool.{cond-true, eq-eqb, ltb-true}
 use Rattle.std.proofs.lemmas.Option.{get_or_from_slice_get, slice_get-map, slice_get_within}
 use Rattle.ds_label.specs.declared.category.PubKey.{PubKey}
 use Rattle.ds_label.specs.declared.category.Category.{Category}
-use Rattle.ds_script.specs.declared.usable.Usable.{Usable}
 use Rattle.ds_script.specs.Replay.{last_of}
-use Rattle.ds_model.specs.Mapping.{is_known, number_of, to_number}
+use Rattle.ds_model.specs.Mapping.{is_known, number_of}
 use Rattle.ds_model.specs.Scheme.{InletName}
 use Rattle.ds_model.specs.Desk.{Desk}
 use Rattle.ds_map.specs.Labels.{numbered}
 use Rattle.ds_desk.specs.Desks.{DeskView, stamp_of}
 use Rattle.ds_desk.specs.declared.act.DeskEntry.{DeskEntry}
 use Rattle.ds_inlet.specs.Inlets.{CountedLane}
-use Rattle.ds_inlet.specs.Connections.{Connection}
-use Rattle.ds_exporter.specs.HostStates.{HostBox, HostLane, HostProcess, HostState}
+use Rattle.ds_exporter.specs.HostStates.{HostBox, HostLane, HostProcess}
 use Rattle.ds_exporter.specs.PlainHosts.{name_of_inlet}
-use Rattle.ds_exporter.specs.Conditions.{AreNumbered, AreTwoLanes, HandHasLane, HasHelloFirst, HaveTwoSlots, IsBoxNamed, IsConnNamed, IsConnOf, IsFit, IsGoing, IsLaneOf, IsNumbered, IsOwned, IsProcNamed, LeadsTo, OpReaches, PassedHasBox, Reaches}
+use Rattle.ds_exporter.specs.Conditions.{AreNumbered, HandHasLane, HasHelloFirst, HaveTwoSlots, IsBoxNamed, IsConnNamed, IsConnOf, IsFit, IsGoing, IsLaneOf, IsNumbered, IsOwned, IsProcNamed, LeadsTo, OpReaches, PassedHasBox, Reaches}
 use Rattle.ds_exporter.specs.Stamping.{IsBefore, IsBoxBefore, IsInletBefore, IsLaneBefore, last_of_desk}
 use Rattle.ds_plan.specs.declared.doc.Doc.{Doc}
 use Rattle.ds_plan.specs.declared.host.HostSpec.{HostSpec}
@@ -31,13 +29,11 @@ use Rattle.ds_plan.specs.Categories.{is_place}
 use Rattle.ds_plan.specs.Documents.{are_different}
 use Rattle.ds_setup.specs.Lists.{each}
 use Rattle.ds_setup.specs.Plans.{inlets_of}
-use Rattle.ds_setup.proofs.Places.{Every, every_each, every_map, one_place, test_at}
+use Rattle.ds_setup.proofs.Places.{every_each, every_map, one_place, test_at}
 use Rattle.ds_boot.specs.Parts.{box_begun, inlet_begun, process_begun, usable_of}
 use Rattle.ds_boot.specs.Lanes.{lane_begun}
-use Rattle.ds_boot.specs.Desks.{IsDeskOf}
 use Rattle.ds_boot.specs.Beginnings.{state_begun}
 use Rattle.ds_boot.specs.Begun.{EachHostFits, EachIsBefore, IsRunning}
-use Rattle.ds_boot.proofs.Lists.{there_at}
 use Rattle.ds_boot.proofs.Rows.{row_known}
 use Rattle.ds_boot.proofs.Signers.{key_count}
 use Rattle.ds_boot.proofs.BegunLists.{all_from, map_back, pairs_from, pairs_map}

@@ -1,10 +1,9 @@
 -- The inlets of a host that begins: no two are of one lane.
-use Rattle.std.proofs.Common.{◌≡◌, ◌≢◌, ℕ, zero, suc, ◌+◌, ◌-◌, ◌<◌, Bool, true, false, cond, List, [], ◌∷◌, ◌++◌, length, map, Option, Some, None, slice_get, option_map, refl, sym, ◌∙◌, ap, subst, arith, eqb}
-use Rattle.std.specs.Prelude.{◌&&◌, not, AllPairs}
+use Rattle.std.proofs.Common.{◌≡◌, ◌≢◌, ℕ, suc, ◌+◌, ◌-◌, ◌<◌, true, false, List, [], ◌++◌, map, Some, slice_get, option_map, refl, sym, ◌∙◌, ap, subst, arith, eqb}
+use Rattle.std.specs.Prelude.{not, AllPairs}
 use Rattle.std.specs.List.{list_all}
 use Rattle.std.proofs.lemmas.Bool.{and_from, and_parts, cond-false, eq-eqb, not-true}
 use Rattle.std.proofs.lemmas.Option.{slice_get-map}
-use Rattle.ds_label.specs.declared.category.PubKey.{PubKey}
 use Rattle.ds_model.specs.Scheme.{InletName}
 use Rattle.ds_exporter.specs.Conditions.{AreTwoInlets}
 use Rattle.ds_plan.specs.declared.doc.Doc.{Doc}

@@ -1,9 +1,8 @@
 -- The lanes of a host that begins: their certificates and keys are setup's, and no two are one.
-use Rattle.std.proofs.Common.{◌≡◌, ◌≢◌, ℕ, zero, suc, ◌+◌, ◌-◌, ◌<◌, Bool, true, false, List, [], ◌∷◌, ◌++◌, length, map, get_or, Option, Some, None, slice_get, refl, sym, ◌∙◌, ap, subst, arith, eqb}
-use Rattle.std.specs.Prelude.{◌&&◌, All, AllPairs}
+use Rattle.std.proofs.Common.{◌≡◌, ℕ, suc, ◌+◌, ◌-◌, ◌<◌, true, false, List, Some, slice_get, refl, sym, ◌∙◌, ap, subst, arith, eqb}
+use Rattle.std.specs.Prelude.{All, AllPairs}
 use Rattle.std.proofs.lemmas.Bool.{and_from, eq-eqb}
 use Rattle.lms_sig.specs.declared.params.Params.{Params}
-use Rattle.lms_sig.specs.Keys.{Key}
 use Rattle.lms_state.specs.Signers.{next_signature}
 use Rattle.ds_label.specs.declared.category.PubKey.{PubKey}
 use Rattle.ds_label.specs.declared.category.Category.{Category}
@@ -25,7 +24,7 @@ use Rattle.ds_plan.specs.Keys.{host_key, host_keys, identity_of}
 use Rattle.ds_plan.specs.Signed.{signature_by}
 use Rattle.ds_plan.specs.Documents.{IsDocument, are_different, is_silent, same_lane}
 use Rattle.ds_setup.specs.Lists.{each}
-use Rattle.ds_setup.specs.Keys.{key_at, lane_key, lane_public_key, lane_tree_of, signing_or_none}
+use Rattle.ds_setup.specs.Keys.{lane_key, lane_tree_of, signing_or_none}
 use Rattle.ds_setup.specs.Signed.{address_leaves, lane_leaf, signed_lane, unsigned_lane}
 use Rattle.ds_setup.proofs.Places.{each_there, every_each, inside, length-each, one_place, test_at}
 use Rattle.ds_setup.proofs.Facts.{leads}

@@ -1,9 +1,8 @@
 -- Numbers and names of a host that begins: its rows make a table, under which each number of a label has its name.
-use Rattle.std.proofs.Common.{◌≡◌, ℕ, zero, suc, ◌+◌, ◌*◌, ◌/◌, ◌%◌, ◌^◌, ◌<◌, ◌≤◌, Bool, true, false, List, [], ◌∷◌, ◌++◌, length, map, Option, Some, None, slice_get, refl, sym, ◌∙◌, ap, subst, arith}
-use Rattle.std.specs.Prelude.{◌&&◌, ◌||◌, not, nat_le, nat_lt, All}
-use Rattle.std.specs.List.{list_all, list_any, flat_map}
-use Rattle.std.proofs.lemmas.Bool.{and_from, and_parts, cond-true, leb-true, lt-ltb, or_right}
-use Rattle.std.proofs.lemmas.Option.{none-some}
+use Rattle.std.proofs.Common.{◌≡◌, ℕ, suc, ◌/◌, ◌%◌, ◌^◌, ◌<◌, ◌≤◌, Bool, true, false, List, [], ◌∷◌, ◌++◌, map, Some, slice_get, refl, sym, ◌∙◌, arith}
+use Rattle.std.specs.Prelude.{◌&&◌, ◌||◌, not, nat_le, nat_lt}
+use Rattle.std.specs.List.{list_all, flat_map}
+use Rattle.std.proofs.lemmas.Bool.{and_from, and_parts, leb-true, lt-ltb}
 use Rattle.ds_label.specs.declared.category.PubKey.{PubKey}
 use Rattle.ds_label.specs.declared.category.Category.{Category}
 use Rattle.ds_label.specs.Flow.{has, IsRising}
@@ -11,9 +10,9 @@ use Rattle.ds_label.specs.Names.{by_name, same_category}
 use Rattle.ds_label.specs.Numbers.{by_number}
 use Rattle.ds_label.proofs.Namings.{names, numbers}
 use Rattle.ds_label.proofs.Members.{same-is}
-use Rattle.ds_model.specs.Mapping.{is_home, is_known, number_of}
+use Rattle.ds_model.specs.Mapping.{is_known, number_of}
 use Rattle.ds_map.specs.Table.{IsTable, are_distinct}
-use Rattle.ds_map.specs.Labels.{are_known, has_name, have_names, named, numbered}
+use Rattle.ds_map.specs.Labels.{has_name, have_names, named, numbered}
 use Rattle.ds_map.proofs.Sets.{list_all-alike}
 use Rattle.ds_map.proofs.Bridge.{has-image}
 use Rattle.ds_map.proofs.Numbers.{labels_one_to_one, number_named}
@@ -22,8 +21,8 @@ use Rattle.ds_plan.specs.declared.host.HostSpec.{HostSpec}
 use Rattle.ds_plan.specs.declared.process.BoxSpec.{BoxSpec}
 use Rattle.ds_plan.specs.declared.process.ProcSpec.{ProcSpec}
 use Rattle.ds_plan.specs.Keys.{host_key, host_keys, same_key}
-use Rattle.ds_plan.specs.Categories.{Origin, has_maker, is_in_range, origin}
-use Rattle.ds_plan.specs.Documents.{IsDocument, HasLabels, IsLabel, are_different, are_rows, is_known_in, is_mapped, lane_categories, makers, process_labels, script_categories, state_categories}
+use Rattle.ds_plan.specs.Categories.{has_maker, is_in_range, origin}
+use Rattle.ds_plan.specs.Documents.{IsDocument, HasLabels, are_different, are_rows, is_known_in, is_mapped, lane_categories, makers, process_labels, script_categories, state_categories}
 use Rattle.ds_setup.proofs.Places.{all_at, one_place, test_append, test_at, test_flat}
 use Rattle.ds_boot.proofs.BegunLists.{all_both}
 use Rattle.ds_boot.proofs.BegunFacts.{sizes_of}

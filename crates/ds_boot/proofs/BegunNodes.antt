@@ -1,14 +1,11 @@
 -- Hosts that begin, as the program has them: exporters, silent hosts, and the connections to both.
-use Rattle.std.proofs.Common.{◌≡◌, ℕ, suc, ◌+◌, Bool, true, false, cond, List, [], ◌∷◌, ◌++◌, length, map, filter, Option, Some, None, slice_get, refl, sym, ◌∙◌, ap, subst, arith, eqb, eqb-true}
-use Rattle.std.specs.Prelude.{◌&&◌, ◌||◌, not, All, nat_eq}
+use Rattle.std.proofs.Common.{◌≡◌, ℕ, suc, Bool, true, false, cond, List, [], ◌∷◌, ◌++◌, length, map, filter, Some, None, slice_get, refl, sym, ◌∙◌, ap, subst, arith, eqb, eqb-true}
+use Rattle.std.specs.Prelude.{◌||◌, not, All, nat_eq}
 use Rattle.std.specs.List.{flat_map}
 use Rattle.std.proofs.lemmas.Bool.{and_parts, cond-true}
-use Rattle.std.proofs.lemmas.List.{append_assoc, map-append}
+use Rattle.std.proofs.lemmas.List.{map-append}
 use Rattle.std.proofs.lemmas.Option.{get_or_from_slice_get}
-use Rattle.ds_label.specs.declared.category.PubKey.{PubKey}
-use Rattle.ds_model.specs.Scheme.{InletName}
 use Rattle.ds_model.specs.Plan.{ConnPlan, HostPlan, Link, OfLane, conn_plan, host_plan, no_wire}
-use Rattle.ds_model.specs.World.{Host}
 use Rattle.ds_inlet.specs.Connections.{Connection, new_connection}
 use Rattle.ds_exporter.specs.HostStates.{HostState}
 use Rattle.ds_exporter.specs.Conditions.{IsFit}
@@ -20,15 +17,15 @@ use Rattle.ds_plan.specs.declared.host.LaneSpec.{LaneSpec}
 use Rattle.ds_plan.specs.Keys.{host_key}
 use Rattle.ds_plan.specs.Documents.{IsDocument, is_bare, is_bare_if_silent, is_silent}
 use Rattle.ds_setup.specs.Lists.{each, joined}
-use Rattle.ds_setup.specs.Plans.{conn_plans_of, declared_inlet, inlets_from, inlets_of, lane_conns, plan_of}
+use Rattle.ds_setup.specs.Plans.{declared_inlet, inlets_from, inlets_of, lane_conns, plan_of}
 use Rattle.ds_setup.specs.Starts.{empty_desk, process_of, running_desk, start_host, worker_of}
 use Rattle.ds_setup.proofs.Places.{Every, every_each, every_joined, from_map, test_at}
 use Rattle.ds_setup.proofs.Setups.{plan_host}
 use Rattle.ds_boot.specs.Parts.{conn_actor, conn_begun, conns_to, ends_of, lane_ends, lane_to}
-use Rattle.ds_boot.specs.Beginnings.{IsBegun, state_begun}
+use Rattle.ds_boot.specs.Beginnings.{IsBegun}
 use Rattle.ds_boot.specs.Nodes.{IsExporterOf, silent_host}
 use Rattle.ds_boot.specs.Begun.{ConnsArePlanned, EachConnIsPlanned, EachSilentHostIsSetup, IsNew, IsPlannedTo, IsRunning}
-use Rattle.ds_boot.proofs.BegunLists.{all_from, every_if, map_again, map_each}
+use Rattle.ds_boot.proofs.BegunLists.{all_from, every_if}
 use Rattle.ds_boot.proofs.BegunConns.{each_new}
 use Rattle.ds_boot.proofs.BegunFits.{begun_before, begun_fits}
 use Rattle.ds_boot.proofs.BegunWorlds.{begun_host, begun_site}

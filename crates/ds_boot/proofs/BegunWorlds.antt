@@ -1,19 +1,14 @@
 -- A host that begins, in the plain world: it is the one that setup has, at the site that the plan has.
-use Rattle.std.proofs.Common.{◌≡◌, ℕ, suc, ◌+◌, Bool, true, false, List, [], ◌∷◌, length, map, Option, Some, None, slice_get, refl, sym, ◌∙◌, ap, subst, arith}
+use Rattle.std.proofs.Common.{◌≡◌, ℕ, true, List, [], map, Some, None, slice_get, refl, sym, ◌∙◌, ap}
 use Rattle.std.specs.List.{list_all}
 use Rattle.std.proofs.lemmas.List.{length-map}
 use Rattle.std.proofs.lemmas.Bool.{cond-false}
-use Rattle.ds_label.specs.declared.category.PubKey.{PubKey}
 use Rattle.ds_label.specs.declared.category.Category.{Category}
 use Rattle.ds_cert.specs.declared.lane.LaneCert.{LaneCert}
-use Rattle.lms_sig.specs.Keys.{Key}
 use Rattle.ds_frame.specs.Spelling.{spelling_of_hello}
 use Rattle.ds_model.specs.Mapping.{is_known}
-use Rattle.ds_model.specs.Scheme.{InletName, SigningKey}
-use Rattle.ds_model.specs.Plan.{BoxPlan, HostPlan, HostSetup, LanePlan, all_keys, host_plan, with_keys}
-use Rattle.ds_model.specs.Desk.{Desk}
-use Rattle.ds_model.specs.World.{Host, LaneLine, Mailbox, Process, Queue, Worker}
-use Rattle.ds_model.specs.Inlet.{Inlet}
+use Rattle.ds_model.specs.Scheme.{InletName}
+use Rattle.ds_model.specs.Plan.{HostSetup, all_keys, host_plan, with_keys}
 use Rattle.ds_desk.specs.Desks.{DeskView}
 use Rattle.ds_desk.specs.Signing.{signing_of}
 use Rattle.ds_map.specs.Labels.{named, numbered}
@@ -26,9 +21,6 @@ use Rattle.ds_plan.specs.declared.process.BoxSpec.{BoxSpec}
 use Rattle.ds_plan.specs.declared.process.ProcSpec.{ProcSpec}
 use Rattle.ds_plan.specs.Keys.{host_key, host_keys}
 use Rattle.ds_plan.specs.Documents.{IsLabel, is_silent}
-use Rattle.ds_setup.specs.Lists.{each}
-use Rattle.ds_setup.specs.Keys.{lane_key, signing_key}
-use Rattle.ds_setup.specs.Signed.{signed_lane}
 use Rattle.ds_setup.specs.Plans.{box_plan_of, host_setup_of, inlets_of, lane_plan_of, plan_of}
 use Rattle.ds_setup.specs.Starts.{empty_desk, process_of, running_desk, start_desk, start_host, worker_of}
 use Rattle.ds_setup.proofs.Places.{all_at}
