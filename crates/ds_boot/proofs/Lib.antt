@@ -15,3 +15,5 @@ mod BegunNames
 mod BegunFits
 mod BegunWorlds
 mod BegunNodes
+mod Named
+mod Started

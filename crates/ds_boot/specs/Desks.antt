@@ -7,6 +7,7 @@ use Rattle.ds_cert.specs.declared.cert.Cert.{Cert}
 use Rattle.ds_cert.specs.declared.cert.Cert.TheVariants as certs
 use Rattle.ds_cert.specs.Ranges.{KeyFits}
 use Rattle.ds_cert.specs.NoDoubles.{with_address, with_delegation}
+use Rattle.ds_map.specs.Table.{IsTable}
 use Rattle.ds_plan.specs.declared.doc.Doc.{Doc}
 use Rattle.ds_plan.specs.declared.host.HostSpec.{HostSpec}
 use Rattle.ds_plan.specs.declared.cert.CertSpec.{CertSpec}
@@ -40,6 +41,7 @@ pub record IsDeskOf (d : Doc) (place : ℕ) (h : HostSpec) (k : DeskView) : Type
   pub here : k.here ≡ host_key h
   pub key : k.key ≡ identity_tree h
   pub desk : k.desk ≡ running_desk d place h
+  pub rows : IsTable (host_key h) h.map
   pub replay : IsReplay k
   pub before : k.opening.before ≡ 0
   pub history : k.history ≡ []

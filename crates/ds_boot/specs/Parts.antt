@@ -41,7 +41,7 @@ abbrev pub box_begun : PubKey → List Category → BoxSpec → HostBox
 box_begun here rows b = record { slot = b.slot; mailbox = fresh_mailbox (numbered here rows b.label) b.owner b.room }
 
 -- each category of its labels is known, and its script is one
-pub record MayBegin (here : PubKey) (rows : List Category) (p : ProcSpec) : Type 0 where
+pub record IsProcKnown (here : PubKey) (rows : List Category) (p : ProcSpec) : Type 0 where
   pub script : IsScript p.script
   pub known : IsTrue (are_known here rows (p.label ∷ p.own ∷ p.clear ∷ []))
 

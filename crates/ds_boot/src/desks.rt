@@ -276,6 +276,7 @@ pub fn begin_desk(
     show_specs(doc.certs.as_slice());
     let here = PubKey(signer.public());
     let table = table_of(alloc, here, host.map.as_slice())?;
+    let _rows = table.rows();
     let store = store_of(alloc, place, certs)?;
     let addresses = addresses_of(alloc, place, own, certs)?;
     let issued = issued_of(alloc, place, certs)?;

@@ -6,7 +6,7 @@ ghost use Rattle.ds_script.specs.Names.{AreApart};
 ghost use Rattle.ds_model.specs.Mapping.{is_known, number_of};
 ghost use Rattle.ds_map.specs.Table.{IsTable};
 ghost use Rattle.ds_exporter.specs.HostStates.{box_of, process_of};
-ghost use Rattle.ds_boot.specs.Parts.{IsBoxKnown, MayBegin, box_begun, process_begun, usable_of};
+ghost use Rattle.ds_boot.specs.Parts.{IsBoxKnown, IsProcKnown, box_begun, process_begun, usable_of};
 
 use ds_box::BoxState;
 use ds_exporter::{BoxList, BoxPart, ProcList, ProcPart};
@@ -48,7 +48,7 @@ fn begin_process(
     table: &MapTable,
     spec: &ProcSpec,
 ) -> Result<ProcPart, AllocError>
-    requires { MayBegin table.now.here table.now.rows spec.now }
+    requires { IsProcKnown table.now.here table.now.rows spec.now }
     ensures { IfOk result (λ p. process_of p ≡ process_begun table.now.here table.now.rows spec.now) }
 {
     let script = spec.script.copy()?;
@@ -68,7 +68,7 @@ pub fn begin_processes(
     table: &MapTable,
     specs: &[ProcSpec],
 ) -> Result<ProcList, AllocError>
-    requires { All (MayBegin table.now.here table.now.rows) specs.now }
+    requires { All (IsProcKnown table.now.here table.now.rows) specs.now }
     ensures { IfOk result (λ l. map process_of l.items ≡ map (process_begun table.now.here table.now.rows) specs.now) }
 {
     let mut procs = Vec::new(alloc);

@@ -1,3 +1,5 @@
+use Rattle.ds_boot.proofs.Started.{cert_is}
+use Rattle.ds_boot.proofs.Named.{procs_known}
 use Rattle.std.proofs.Common.{[], arith}
 use Rattle.std.specs.List.{flat_map}
 use Rattle.ds_boot.specs.Desks.{addresses_for, with_addresses}

@@ -12,7 +12,7 @@ use Rattle.ds_plan.specs.Keys.{host_key}
 use Rattle.ds_plan.specs.Documents.{are_rows}
 use Rattle.ds_setup.specs.Signed.{DocCert, leaf_behind}
 use Rattle.ds_boot.specs.Desks.{IsTyped, addresses_for, delegations_for, issued_for, with_addresses, with_delegations}
-use Rattle.ds_map.specs.Table.{Table}
+use Rattle.ds_map.specs.Table.{IsTable, Table}
 use Rattle.ds_chain.specs.Stored.{Stored}
 use Rattle.ds_cert.specs.declared.delegation.Delegation.{Delegation}
 use Rattle.ds_boot.proofs.OwnParts.{key_shown}
@@ -60,6 +60,7 @@ returns c =
           ∙ ap (λ (all : List DocCert). with_addresses (with_addresses [] (own_addresses c.args.doc.now.hosts)) (flat_map (addresses_for c.args.place) all)) all)))
           (ap (λ (l : Stored Delegation). l.items) c.in_ok-desk.ensures.lists.2 ∙ (c.in_ok-issued.ensures ∙ ap (λ (all : List DocCert). flat_map (issued_for c.args.place) all) all))
           (ap (λ (s : Signing). s.next) (c.in_ok-desk.ensures.whole.1 ∙ c.requires.signer));
+      rows = subst (λ (rows : List Category). IsTable (host_key c.args.host.now) rows) (c.in_ok-table.ensures.rows ∙ c.as_slice-2.ensures) (subst (λ (here : PubKey). IsTable here c.in_ok-table.table.rows) (c.in_ok-table.ensures.here ∙ key) c.rows-rows.ensures.table);
       replay = c.in_ok-desk.ensures.kept;
       before = c.in_ok-desk.ensures.begins.0;
       history = c.in_ok-desk.ensures.begins.1;
