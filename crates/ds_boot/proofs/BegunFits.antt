@@ -1,4 +1,4 @@
--- A host that begins: its parts fit together, and nothing is entered.
+-- A host that begins: its parts fit together.
 use Rattle.std.proofs.Common.{◌≡◌, ℕ, ◌^◌, ◌<◌, ◌≤◌, true, List, length, map, get_or, Some, None, slice_get, option_map, refl, sym, ◌∙◌, ap, subst, arith, eqb}
 use Rattle.std.specs.Prelude.{All, AllPairs}
 use Rattle.std.specs.List.{list_all}
@@ -7,21 +7,14 @@ use Rattle.std.proofs.lemmas.Bool.{cond-true, eq-eqb, ltb-true}
 use Rattle.std.proofs.lemmas.Option.{get_or_from_slice_get, slice_get-map, slice_get_within}
 use Rattle.ds_label.specs.declared.category.PubKey.{PubKey}
 use Rattle.ds_label.specs.declared.category.Category.{Category}
-use Rattle.ds_script.specs.Replay.{last_of}
 use Rattle.ds_model.specs.Mapping.{is_known, number_of}
-use Rattle.ds_model.specs.Scheme.{InletName}
 use Rattle.ds_model.specs.Desk.{Desk}
-use Rattle.ds_map.specs.Labels.{numbered}
-use Rattle.ds_desk.specs.Desks.{DeskView, stamp_of}
-use Rattle.ds_desk.specs.declared.act.DeskEntry.{DeskEntry}
-use Rattle.ds_inlet.specs.Inlets.{CountedLane}
-use Rattle.ds_exporter.specs.HostStates.{HostBox, HostLane, HostProcess}
+use Rattle.ds_desk.specs.Desks.{DeskView}
+use Rattle.ds_exporter.specs.HostStates.{HostBox, HostProcess}
 use Rattle.ds_exporter.specs.PlainHosts.{name_of_inlet}
 use Rattle.ds_exporter.specs.Conditions.{AreNumbered, HandHasLane, HasHelloFirst, HaveTwoSlots, IsBoxNamed, IsConnNamed, IsConnOf, IsFit, IsGoing, IsLaneOf, IsNumbered, IsOwned, IsProcNamed, LeadsTo, OpReaches, PassedHasBox, Reaches}
-use Rattle.ds_exporter.specs.Stamping.{IsBefore, IsBoxBefore, IsInletBefore, IsLaneBefore, last_of_desk}
 use Rattle.ds_plan.specs.declared.doc.Doc.{Doc}
 use Rattle.ds_plan.specs.declared.host.HostSpec.{HostSpec}
-use Rattle.ds_plan.specs.declared.host.LaneSpec.{LaneSpec}
 use Rattle.ds_plan.specs.declared.process.BoxSpec.{BoxSpec}
 use Rattle.ds_plan.specs.declared.process.ProcSpec.{ProcSpec}
 use Rattle.ds_plan.specs.Keys.{host_key, host_keys}
@@ -29,19 +22,20 @@ use Rattle.ds_plan.specs.Categories.{is_place}
 use Rattle.ds_plan.specs.Documents.{are_different}
 use Rattle.ds_setup.specs.Lists.{each}
 use Rattle.ds_setup.specs.Plans.{inlets_of}
-use Rattle.ds_setup.proofs.Places.{every_each, every_map, one_place, test_at}
+use Rattle.ds_setup.proofs.Places.{every_map, one_place, test_at}
 use Rattle.ds_boot.specs.Parts.{box_begun, inlet_begun, process_begun, usable_of}
 use Rattle.ds_boot.specs.Lanes.{lane_begun}
 use Rattle.ds_boot.specs.Beginnings.{state_begun}
-use Rattle.ds_boot.specs.Begun.{EachHostFits, EachIsBefore, IsRunning}
+use Rattle.ds_boot.specs.Begun.{EachHostFits, IsRunning}
 use Rattle.ds_boot.proofs.Rows.{row_known}
 use Rattle.ds_boot.proofs.Signers.{key_count}
-use Rattle.ds_boot.proofs.BegunLists.{all_from, map_back, pairs_from, pairs_map}
+use Rattle.ds_boot.proofs.Named.{box_label, one_named, proc_labels, three_named}
+use Rattle.ds_boot.proofs.Started.{map_same, map_twice}
+use Rattle.ds_boot.proofs.BegunLists.{all_from, pairs_from, pairs_map}
 use Rattle.ds_boot.proofs.BegunFacts.{script_reaches, sizes_of}
 use Rattle.ds_boot.proofs.BegunLanes.{lane_actors, lanes_differ, lanes_of_host}
 use Rattle.ds_boot.proofs.BegunInlets.{inlets_differ}
 use Rattle.ds_boot.proofs.BegunConns.{conns_rise, each_new}
-use Rattle.ds_boot.proofs.BegunNames.{box_known, label_named, one_named, proc_known, three_named}
 
 module _ (d : Doc) (place : ℕ) (h : HostSpec) (k : DeskView) (is : IsRunning d place h k) where
   -- what holds under the host's key and rows holds under the desk's
@@ -54,19 +48,13 @@ module _ (d : Doc) (place : ℕ) (h : HostSpec) (k : DeskView) (is : IsRunning d
   abbrev begin_box : BoxSpec → HostBox
   begin_box = box_begun (host_key h) h.map
 
-  -- of each process, mailbox, lane and inlet
+  -- of each process, and of each mailbox
 
   every_proc : (P : HostProcess → Type 0) → ((i : ℕ) (p : ProcSpec) → slice_get h.procs i ≡ Some p → P (process_begun (host_key h) h.map p)) → All P (map (process_begun (host_key h) h.map) h.procs)
   every_proc P p = all_from P (map begin_proc h.procs) (every_map P begin_proc h.procs p)
 
   every_box : (P : HostBox → Type 0) → ((i : ℕ) (b : BoxSpec) → slice_get h.boxes i ≡ Some b → P (box_begun (host_key h) h.map b)) → All P (map (box_begun (host_key h) h.map) h.boxes)
   every_box P p = all_from P (map begin_box h.boxes) (every_map P begin_box h.boxes p)
-
-  every_lane : (P : HostLane → Type 0) → ((l : ℕ) (lane : LaneSpec) → P (lane_begun (host_keys d.hosts) place h l lane)) → All P (each (lane_begun (host_keys d.hosts) place h) h.lanes)
-  every_lane P p = all_from P (each (lane_begun (host_keys d.hosts) place h) h.lanes) (every_each P (lane_begun (host_keys d.hosts) place h) h.lanes (λ l lane e. p l lane))
-
-  every_inlet : (P : CountedLane → Type 0) → ((name : InletName) → P (inlet_begun name)) → All P (map inlet_begun (inlets_of d.hosts place h))
-  every_inlet P p = all_from P (map inlet_begun (inlets_of d.hosts place h)) (every_map P inlet_begun (inlets_of d.hosts place h) (λ i name e. p name))
 
   -- ---- the fields
 
@@ -99,19 +87,18 @@ module _ (d : Doc) (place : ℕ) (h : HostSpec) (k : DeskView) (is : IsRunning d
 
   leading : All (LeadsTo k.here (map name_of_inlet (map inlet_begun (inlets_of d.hosts place h)))) (state_begun d place h k).conns
   leading = each_new place (host_key h) (inlets_of d.hosts place h) _ (LeadsTo k.here (map name_of_inlet (map inlet_begun (inlets_of d.hosts place h))))
-      (λ number. record { here = sym is.desk.here; inlets = sym (map_back name_of_inlet inlet_begun (inlets_of d.hosts place h) (λ name. refl)) })
+      (λ number. record { here = sym is.desk.here; inlets = sym (map_twice name_of_inlet inlet_begun (λ name. name) (inlets_of d.hosts place h) (λ i name e. refl) ∙ map_same (inlets_of d.hosts place h)) })
 
   -- ---- names
 
   named_procs : All (IsProcNamed (host_key h) h.map) (map (process_begun (host_key h) h.map) h.procs)
   named_procs = every_proc (IsProcNamed (host_key h) h.map) (λ i p e.
-      let known = proc_known d is.document place h is.there i p e in
-      three_named (host_key h) h.map (numbered (host_key h) h.map p.label) (numbered (host_key h) h.map p.own) (numbered (host_key h) h.map p.clear)
-      (label_named (host_key h) h.map p.label known.label) (label_named (host_key h) h.map p.own known.own) (label_named (host_key h) h.map p.clear known.clear))
+      let known = proc_labels d is.document place h is.there i p e in
+      three_named (host_key h) h.map p.label p.own p.clear known.label known.own known.clear)
 
   named_boxes : All (IsBoxNamed (host_key h) h.map) (map (box_begun (host_key h) h.map) h.boxes)
   named_boxes = every_box (IsBoxNamed (host_key h) h.map) (λ i b e. record {
-    label = one_named (host_key h) h.map (numbered (host_key h) h.map b.label) (label_named (host_key h) h.map b.label (box_known d is.document place h is.there i b e));
+    label = one_named (host_key h) h.map b.label (box_label d is.document place h is.there i b e).label;
     waiting = λ j m lt. absurd (omega (arith, lt));
     opening = λ j m lt. absurd (omega (arith, lt));
     history = λ j m lt. absurd (omega (arith, lt));
@@ -153,18 +140,5 @@ module _ (d : Doc) (place : ℕ) (h : HostSpec) (k : DeskView) (is : IsRunning d
     hellos = each_new place (host_key h) (inlets_of d.hosts place h) _ HasHelloFirst (λ number none. (refl, refl));
   }
 
-  before : IsBefore 1 (state_begun d place h k)
-  before = record {
-    desk =
-        let last : last_of_desk k ≡ 0 = ap (λ (history : List DeskEntry). last_of stamp_of k.opening.before history) is.desk.history ∙ is.desk.before in
-        omega (arith, last);
-    boxes = every_box (IsBoxBefore 1) (λ i b e. omega arith);
-    lanes = every_lane (IsLaneBefore 1) (λ l lane. record { last = omega arith; senders = λ j entry lt. absurd (omega (arith, lt)); worker = λ j entry lt. absurd (omega (arith, lt)) });
-    inlets = every_inlet (IsInletBefore 1) (λ name. omega arith);
-  }
-
 pub begun_fits : EachHostFits
 begun_fits d place h k is = fits d place h k is
-
-pub begun_before : EachIsBefore
-begun_before d place h k is = before d place h k is

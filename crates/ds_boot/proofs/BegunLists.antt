@@ -1,8 +1,6 @@
 -- Lists by places: what holds of each item, and of each two.
 use Rattle.std.proofs.Common.{◌≡◌, ℕ, zero, suc, ◌+◌, ◌<◌, Bool, true, false, cond, List, [], ◌∷◌, ◌++◌, length, map, get_or, Some, slice_get, refl, subst, ◌⊎◌, inl, inr, arith}
-use Rattle.std.specs.Prelude.{◌&&◌}
-use Rattle.std.specs.List.{All, AllPairs, list_all}
-use Rattle.std.proofs.lemmas.Bool.{and_parts}
+use Rattle.std.specs.List.{All, AllPairs}
 use Rattle.std.proofs.lemmas.Option.{none-some, slice_get_within}
 use Rattle.ds_setup.specs.Lists.{each, joined}
 use Rattle.ds_setup.proofs.Places.{Every, every_joined, from_each, from_map}
@@ -71,35 +69,3 @@ module _ {X Y : Type 0} where
       let a : (x : X) × (slice_get xs i ≡ Some x) × (f x ≡ y) = from_map f xs i y e in
       let b : (x : X) × (slice_get xs j ≡ Some x) × (f x ≡ z) = from_map f xs j z g in
       subst (λ w. R w z) a.2 (subst (λ w. R (f a.0) w) b.2 (p i j a.0 b.0 lt a.1 b.1))
-
--- MAPPED TWICE
-
-module _ {X Y Z : Type 0} where
-  pub map_again : (f : Y → Z) (g : X → Y) (to : X → Z) (xs : List X) → Every (λ x. f (g x) ≡ to x) xs → map f (map g xs) ≡ map to xs
-  map_again f g to [] same = refl
-  map_again f g to (x ∷ xs) same = λ i. same 0 x refl i ∷ map_again f g to xs (λ j y e. same (suc j) y e) i
-
-  pub map_each : (f : Y → Z) (g : ℕ → X → Y) (to : ℕ → X → Z) (xs : List X) → ((i : ℕ) (x : X) → slice_get xs i ≡ Some x → f (g i x) ≡ to i x) → map f (each g xs) ≡ each to xs
-  map_each f g to [] same = refl
-  map_each f g to (x ∷ xs) same = λ i. same 0 x refl i ∷ map_each f (λ j. g (suc j)) (λ j. to (suc j)) xs (λ j y e. same (suc j) y e) i
-
-  pub map_places : (f : Y → Z) (g : ℕ → X → Y) (to : X → Z) (xs : List X) → ((i : ℕ) (x : X) → f (g i x) ≡ to x) → map f (each g xs) ≡ map to xs
-  map_places f g to [] same = refl
-  map_places f g to (x ∷ xs) same = λ i. same 0 x i ∷ map_places f (λ j. g (suc j)) to xs (λ j y. same (suc j) y) i
-
-pub map_back : {X Y : Type 0} (f : Y → X) (g : X → Y) (xs : List X) → ((x : X) → f (g x) ≡ x) → map f (map g xs) ≡ xs
-map_back f g [] same = refl
-map_back f g (x ∷ xs) same = λ i. same x i ∷ map_back f g xs same i
-
--- TESTS OF ALL
-
-module _ {X : Type 0} where
-  -- what passes two tests passes a third
-  pub all_both : (p q r : X → Bool) (xs : List X) → ((x : X) → p x ≡ true → q x ≡ true → r x ≡ true) → list_all p xs ≡ true → list_all q xs ≡ true → list_all r xs ≡ true
-  all_both p q r [] so a b = refl
-  all_both p q r (x ∷ xs) so a b =
-      let one = and_parts (p x) (list_all p xs) a in
-      let two = and_parts (q x) (list_all q xs) b in
-      let here = so x one.0 two.0 in
-      let later = all_both p q r xs so one.1 two.1 in
-      λ i. here i && later i

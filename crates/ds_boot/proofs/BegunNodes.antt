@@ -1,8 +1,7 @@
 -- Hosts that begin, as the program has them: exporters, silent hosts, and the connections to both.
-use Rattle.std.proofs.Common.{◌≡◌, ℕ, suc, Bool, true, false, cond, List, [], ◌∷◌, ◌++◌, length, map, filter, Some, None, slice_get, refl, sym, ◌∙◌, ap, subst, arith, eqb, eqb-true}
-use Rattle.std.specs.Prelude.{◌||◌, not, All, nat_eq}
+use Rattle.std.proofs.Common.{◌≡◌, ℕ, suc, Bool, true, false, cond, List, [], ◌∷◌, ◌++◌, length, map, filter, Some, slice_get, refl, sym, ◌∙◌, ap, subst, eqb, eqb-true}
+use Rattle.std.specs.Prelude.{All}
 use Rattle.std.specs.List.{flat_map}
-use Rattle.std.proofs.lemmas.Bool.{and_parts, cond-true}
 use Rattle.std.proofs.lemmas.List.{map-append}
 use Rattle.std.proofs.lemmas.Option.{get_or_from_slice_get}
 use Rattle.ds_model.specs.Plan.{ConnPlan, HostPlan, Link, OfLane, conn_plan, host_plan, no_wire}
@@ -15,32 +14,29 @@ use Rattle.ds_plan.specs.declared.doc.Doc.{Doc}
 use Rattle.ds_plan.specs.declared.host.HostSpec.{HostSpec}
 use Rattle.ds_plan.specs.declared.host.LaneSpec.{LaneSpec}
 use Rattle.ds_plan.specs.Keys.{host_key}
-use Rattle.ds_plan.specs.Documents.{IsDocument, is_bare, is_bare_if_silent, is_silent}
+use Rattle.ds_plan.specs.Documents.{IsDocument, is_silent}
 use Rattle.ds_setup.specs.Lists.{each, joined}
-use Rattle.ds_setup.specs.Plans.{declared_inlet, inlets_from, inlets_of, lane_conns, plan_of}
-use Rattle.ds_setup.specs.Starts.{empty_desk, process_of, running_desk, start_host, worker_of}
-use Rattle.ds_setup.proofs.Places.{Every, every_each, every_joined, from_map, test_at}
+use Rattle.ds_setup.specs.Plans.{inlets_of, lane_conns, plan_of}
+use Rattle.ds_setup.specs.Starts.{start_host}
+use Rattle.ds_setup.proofs.Places.{Every, every_each, every_joined, from_map}
 use Rattle.ds_setup.proofs.Setups.{plan_host}
 use Rattle.ds_boot.specs.Parts.{conn_actor, conn_begun, conns_to, ends_of, lane_ends, lane_to}
 use Rattle.ds_boot.specs.Beginnings.{IsBegun}
-use Rattle.ds_boot.specs.Nodes.{IsExporterOf, silent_host}
-use Rattle.ds_boot.specs.Begun.{ConnsArePlanned, EachConnIsPlanned, EachSilentHostIsSetup, IsNew, IsPlannedTo, IsRunning}
+use Rattle.ds_boot.specs.Nodes.{IsExporterOf}
+use Rattle.ds_boot.specs.Begun.{ConnsArePlanned, EachConnIsPlanned, EachHostIsSetup, EachIsBefore, EachSilentHostIsSetup, EachSiteIsPlanned, IsNew, IsPlannedTo}
 use Rattle.ds_boot.proofs.BegunLists.{all_from, every_if}
 use Rattle.ds_boot.proofs.BegunConns.{each_new}
-use Rattle.ds_boot.proofs.BegunFits.{begun_before, begun_fits}
-use Rattle.ds_boot.proofs.BegunWorlds.{begun_host, begun_site}
+use Rattle.ds_boot.proofs.BegunFits.{begun_fits}
+use Rattle.ds_boot.proofs.Started.{before_now, host_now, silent_now, site_now}
 
 -- EXPORTERS: what is known of one that begins as the document says
 
 module _ (d : Doc) (is : IsDocument d) (place : ℕ) (h : HostSpec) (there : slice_get d.hosts place ≡ Some h) (runs : is_silent h.secret ≡ false) (e : HostState) (begun : IsBegun d place h e) where
-  running : IsRunning d place h e.desk
-  running = record { document = is; there = there; runs = runs; desk = begun.desk }
-
   pub exporter_fits : IsFit e
-  exporter_fits = subst IsFit (sym begun.state) (begun_fits d place h e.desk running)
+  exporter_fits = subst IsFit (sym begun.state) (begun_fits d place h e.desk (record { document = is; there = there; runs = runs; desk = begun.desk }))
 
   pub exporter_host : host_of e ≡ start_host d place h
-  exporter_host = ap host_of begun.state ∙ begun_host d place h e.desk running
+  exporter_host = ap host_of begun.state ∙ host_now d is place h there runs e.desk begun.desk
 
   pub exporter_conns : e.conns ≡ conns_to d place h
   exporter_conns = ap (λ (x : HostState). x.conns) begun.state
@@ -48,55 +44,29 @@ module _ (d : Doc) (is : IsDocument d) (place : ℕ) (h : HostSpec) (there : sli
   pub exporter_is : IsExporterOf d place e
   exporter_is = record {
     runs = ap (λ (p : HostPlan). p.silent) (plan_host d place h there) ∙ runs;
-    site = ap site_of begun.state ∙ begun_site d place h e.desk running;
+    site = ap site_of begun.state ∙ site_now d is place h there runs e.desk begun.desk;
     host = ap (λ (x : HostState). x.host) begun.state;
-    stamps = subst (IsBefore 1) (sym begun.state) (begun_before d place h e.desk running);
+    stamps = subst (IsBefore 1) (sym begun.state) (before_now d is place h there runs e.desk begun.desk);
   }
+
+-- so it is of each
+
+pub begun_host : EachHostIsSetup
+begun_host d place h k is = host_now d is.document place h is.there is.runs k is.desk
+
+pub begun_site : EachSiteIsPlanned
+begun_site d place h k is = site_now d is.document place h is.there is.runs k is.desk
+
+pub begun_before : EachIsBefore
+begun_before d place h k is = before_now d is.document place h is.there is.runs k is.desk
 
 -- SILENT HOSTS
 
-none : {X : Type 0} (xs : List X) → nat_eq (length xs) 0 ≡ true → xs ≡ []
-none [] e = refl
-none (x ∷ xs) e = absurd (no (eqb-true (suc (length xs)) 0 e))
-  where
-    no : suc (length xs) ≡ 0 → ⊥
-    no f = omega (arith, f)
-
-module _ (d : Doc) (is : IsDocument d) (place : ℕ) (h : HostSpec) (there : slice_get d.hosts place ≡ Some h) (silent : is_silent h.secret ≡ true) where
-  bare : is_bare h ≡ true
-  bare = go (is_silent h.secret) silent (test_at is_bare_if_silent d.hosts place h is.silent there)
-    where
-      go : (b : Bool) → b ≡ true → (not b || is_bare h) ≡ true → is_bare h ≡ true
-      go true e t = t
-      go false e t = absurd cc
-
-  pub silent_start : silent_host ≡ start_host d place h
-  silent_start =
-      let address = and_parts _ _ bare in
-      let rows = and_parts _ _ address.0 in
-      let inlets = and_parts _ _ rows.0 in
-      let lanes = and_parts _ _ inlets.0 in
-      let both = and_parts _ _ lanes.0 in
-      let no_procs = none h.procs both.0 in
-      let no_boxes = none h.boxes both.1 in
-      let no_lanes = none h.lanes lanes.1 in
-      let names = cond-true (is_silent h.secret) [] (joined (map (inlets_from place) d.hosts) ++ map (declared_inlet d.hosts) h.inlets) silent in
-      let desk = cond-true (is_silent h.secret) empty_desk (running_desk d place h) silent in
-      sym (λ j. record (start_host d place h) {
-        desk = desk j;
-        procs = map (process_of h.map) (no_procs j);
-        boxes = map (λ b. record { waiting = []; entries = [] }) (no_boxes j);
-        queues = map (λ l. []) (no_lanes j);
-        workers = each (worker_of d.hosts h) (no_lanes j);
-        logs = map (λ l. []) (no_lanes j);
-        inlets = map (λ i. None) (names j);
-      })
-
-  pub silent_plan : (host_plan (plan_of d) place).silent ≡ true
-  silent_plan = ap (λ (p : HostPlan). p.silent) (plan_host d place h there) ∙ silent
+pub silent_plan : (d : Doc) (place : ℕ) (h : HostSpec) → slice_get d.hosts place ≡ Some h → is_silent h.secret ≡ true → (host_plan (plan_of d) place).silent ≡ true
+silent_plan d place h there silent = ap (λ (p : HostPlan). p.silent) (plan_host d place h there) ∙ silent
 
 pub silent_hosts : EachSilentHostIsSetup
-silent_hosts d place h is there silent = silent_start d is place h there silent
+silent_hosts d place h is there silent = sym (silent_now d is place h there silent)
 
 -- CONNECTIONS
 
