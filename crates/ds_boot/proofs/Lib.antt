@@ -11,9 +11,7 @@ mod BegunFacts
 mod BegunLanes
 mod BegunInlets
 mod BegunConns
-mod BegunNames
 mod BegunFits
-mod BegunWorlds
 mod BegunNodes
 mod Named
 mod Started

@@ -1,5 +1,5 @@
-use Rattle.ds_boot.proofs.BegunFits.{begun_before, begun_fits}
-use Rattle.ds_boot.proofs.BegunWorlds.{begun_host, begun_site}
+use Rattle.ds_boot.proofs.BegunFits.{begun_fits}
+use Rattle.ds_boot.proofs.BegunNodes.{begun_before, begun_host, begun_site}
 use Rattle.ds_boot.proofs.laws.hosts_begin_so.Goals as goal
 
 pub returns-clause-fit : goal.returns-clause-fit
