@@ -15,3 +15,6 @@ mod BegunFits
 mod BegunNodes
 mod Named
 mod Started
+mod Pairs
+mod Distinct
+mod Fitting

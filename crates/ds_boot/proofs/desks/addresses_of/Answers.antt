@@ -1,3 +1,5 @@
+use Rattle.ds_boot.proofs.Fitting.{fits}
+use Rattle.ds_boot.proofs.Distinct.{inlets_differ}
 use Rattle.ds_boot.proofs.Started.{cert_is}
 use Rattle.ds_boot.proofs.Named.{procs_known}
 use Rattle.std.proofs.Common.{[], arith}
