@@ -6,15 +6,10 @@ mod OwnParts
 mod Rooms
 mod DeskFacts
 mod Inlets
-mod BegunLists
-mod BegunFacts
-mod BegunLanes
-mod BegunInlets
-mod BegunConns
-mod BegunFits
-mod BegunNodes
 mod Named
 mod Started
 mod Pairs
 mod Distinct
 mod Fitting
+mod Exporters
+mod Planned

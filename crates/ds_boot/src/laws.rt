@@ -1,6 +1,6 @@
 //! What holds of every host that begins. The functions do nothing: their contracts are the laws.
 
-ghost use Rattle.ds_boot.specs.Begun.{EachConnIsPlanned, EachHostFits, EachHostIsSetup, EachIsBefore, EachSilentHostIsSetup, EachSiteIsPlanned};
+ghost use Rattle.ds_boot.specs.HostsBegin.{EachConnIsPlanned, EachHostFits, EachHostIsSetup, EachIsBefore, EachSilentHostIsSetup, EachSiteIsPlanned};
 
 /// A running host that begins is an exporter: its parts fit together. In the plain world it is the host that setup has, at
 /// the site that the plan has, and nothing is entered.

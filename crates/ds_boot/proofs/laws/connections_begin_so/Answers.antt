@@ -1,4 +1,4 @@
-use Rattle.ds_boot.proofs.BegunNodes.{conns_are_planned}
+use Rattle.ds_boot.proofs.Planned.{conns_are_planned}
 use Rattle.ds_boot.proofs.laws.connections_begin_so.Goals as goal
 
 pub returns : goal.returns

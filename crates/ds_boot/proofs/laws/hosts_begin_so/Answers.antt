@@ -1,5 +1,4 @@
-use Rattle.ds_boot.proofs.BegunFits.{begun_fits}
-use Rattle.ds_boot.proofs.BegunNodes.{begun_before, begun_host, begun_site}
+use Rattle.ds_boot.proofs.Exporters.{begun_before, begun_fits, begun_host, begun_site}
 use Rattle.ds_boot.proofs.laws.hosts_begin_so.Goals as goal
 
 pub returns-clause-fit : goal.returns-clause-fit

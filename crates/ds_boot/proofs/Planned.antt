@@ -1,74 +1,27 @@
--- Hosts that begin, as the program has them: exporters, silent hosts, and the connections to both.
-use Rattle.std.proofs.Common.{◌≡◌, ℕ, suc, Bool, true, false, cond, List, [], ◌∷◌, ◌++◌, length, map, filter, Some, slice_get, refl, sym, ◌∙◌, ap, subst, eqb, eqb-true}
+-- The connections to a host are those that the plan leads there.
+use Rattle.std.proofs.Common.{◌≡◌, ℕ, zero, suc, Bool, true, false, cond, List, [], ◌∷◌, ◌++◌, length, map, filter, Some, None, slice_get, refl, sym, ◌∙◌, ap, subst, eqb, eqb-true}
 use Rattle.std.specs.Prelude.{All}
 use Rattle.std.specs.List.{flat_map}
 use Rattle.std.proofs.lemmas.List.{map-append}
-use Rattle.std.proofs.lemmas.Option.{get_or_from_slice_get}
-use Rattle.ds_model.specs.Plan.{ConnPlan, HostPlan, Link, OfLane, conn_plan, host_plan, no_wire}
+use Rattle.std.proofs.lemmas.Option.{get_or_from_slice_get, none-some, same_Some}
+use Rattle.ds_model.specs.Plan.{ConnPlan, Link, OfLane, conn_plan, no_wire}
 use Rattle.ds_inlet.specs.Connections.{Connection, new_connection}
-use Rattle.ds_exporter.specs.HostStates.{HostState}
-use Rattle.ds_exporter.specs.Conditions.{IsFit}
-use Rattle.ds_exporter.specs.PlainHosts.{host_of, site_of}
-use Rattle.ds_exporter.specs.Stamping.{IsBefore}
 use Rattle.ds_plan.specs.declared.doc.Doc.{Doc}
 use Rattle.ds_plan.specs.declared.host.HostSpec.{HostSpec}
 use Rattle.ds_plan.specs.declared.host.LaneSpec.{LaneSpec}
 use Rattle.ds_plan.specs.Keys.{host_key}
-use Rattle.ds_plan.specs.Documents.{IsDocument, is_silent}
 use Rattle.ds_setup.specs.Lists.{each, joined}
 use Rattle.ds_setup.specs.Plans.{inlets_of, lane_conns, plan_of}
-use Rattle.ds_setup.specs.Starts.{start_host}
 use Rattle.ds_setup.proofs.Places.{Every, every_each, every_joined, from_map}
-use Rattle.ds_setup.proofs.Setups.{plan_host}
 use Rattle.ds_boot.specs.Parts.{conn_actor, conn_begun, conns_to, ends_of, lane_ends, lane_to}
-use Rattle.ds_boot.specs.Beginnings.{IsBegun}
-use Rattle.ds_boot.specs.Nodes.{IsExporterOf}
-use Rattle.ds_boot.specs.Begun.{ConnsArePlanned, EachConnIsPlanned, EachHostIsSetup, EachIsBefore, EachSilentHostIsSetup, EachSiteIsPlanned, IsNew, IsPlannedTo}
-use Rattle.ds_boot.proofs.BegunLists.{all_from, every_if}
-use Rattle.ds_boot.proofs.BegunConns.{each_new}
-use Rattle.ds_boot.proofs.BegunFits.{begun_fits}
-use Rattle.ds_boot.proofs.Started.{before_now, host_now, silent_now, site_now}
+use Rattle.ds_boot.specs.HostsBegin.{ConnsArePlanned, EachConnIsPlanned, IsNew, IsPlannedTo}
+use Rattle.ds_boot.proofs.Named.{every_all}
 
--- EXPORTERS: what is known of one that begins as the document says
-
-module _ (d : Doc) (is : IsDocument d) (place : ℕ) (h : HostSpec) (there : slice_get d.hosts place ≡ Some h) (runs : is_silent h.secret ≡ false) (e : HostState) (begun : IsBegun d place h e) where
-  pub exporter_fits : IsFit e
-  exporter_fits = subst IsFit (sym begun.state) (begun_fits d place h e.desk (record { document = is; there = there; runs = runs; desk = begun.desk }))
-
-  pub exporter_host : host_of e ≡ start_host d place h
-  exporter_host = ap host_of begun.state ∙ host_now d is place h there runs e.desk begun.desk
-
-  pub exporter_conns : e.conns ≡ conns_to d place h
-  exporter_conns = ap (λ (x : HostState). x.conns) begun.state
-
-  pub exporter_is : IsExporterOf d place e
-  exporter_is = record {
-    runs = ap (λ (p : HostPlan). p.silent) (plan_host d place h there) ∙ runs;
-    site = ap site_of begun.state ∙ site_now d is place h there runs e.desk begun.desk;
-    host = ap (λ (x : HostState). x.host) begun.state;
-    stamps = subst (IsBefore 1) (sym begun.state) (before_now d is place h there runs e.desk begun.desk);
-  }
-
--- so it is of each
-
-pub begun_host : EachHostIsSetup
-begun_host d place h k is = host_now d is.document place h is.there is.runs k is.desk
-
-pub begun_site : EachSiteIsPlanned
-begun_site d place h k is = site_now d is.document place h is.there is.runs k is.desk
-
-pub begun_before : EachIsBefore
-begun_before d place h k is = before_now d is.document place h is.there is.runs k is.desk
-
--- SILENT HOSTS
-
-pub silent_plan : (d : Doc) (place : ℕ) (h : HostSpec) → slice_get d.hosts place ≡ Some h → is_silent h.secret ≡ true → (host_plan (plan_of d) place).silent ≡ true
-silent_plan d place h there silent = ap (λ (p : HostPlan). p.silent) (plan_host d place h there) ∙ silent
-
-pub silent_hosts : EachSilentHostIsSetup
-silent_hosts d place h is there silent = sym (silent_now d is place h there silent)
-
--- CONNECTIONS
+-- one item or none
+every_if : {X : Type 0} (P : X → Type 0) (b : Bool) (x : X) → (b ≡ true → P x) → Every P (cond b (x ∷ []) [])
+every_if P true x p zero y e = subst P (same_Some x y e) (p refl)
+every_if P true x p (suc i) y e = absurd (none-some y e)
+every_if P false x p i y e = absurd (none-some y e)
 
 -- a list behind another, mapped
 map_joined : {X Y Z : Type 0} (g : Y → Z) (f : ℕ → X → List Y) (to : X → List Z) (xs : List X) → ((i : ℕ) (x : X) → map g (f i x) ≡ to x) → map g (joined (each f xs)) ≡ flat_map to xs
@@ -102,11 +55,11 @@ module _ (d : Doc) where
         from_map (λ (c : ConnPlan). c.host) (plan_of d).conn_plans number to (ap (λ (ns : List ℕ). slice_get ns number) ends_are ∙ e) in
         ap (λ (c : ConnPlan). c.host) (get_or_from_slice_get (plan_of d).conn_plans number m.0 no_wire m.1) ∙ (m.2 ∙ eqb-true to place on)
 
-    planned : All (IsPlannedTo d place) (conns_to d place h)
-    planned = all_from (IsPlannedTo d place) (conns_to d place h)
-        (every_joined (IsPlannedTo d place) (each (conn_begun place (host_key h) (inlets_of d.hosts place h)) (ends_of d))
-        (every_each (Every (IsPlannedTo d place)) (conn_begun place (host_key h) (inlets_of d.hosts place h)) (ends_of d)
-        (λ number to e. every_if (IsPlannedTo d place) (eqb to place) (new_connection (conn_actor place number) (host_key h) (inlets_of d.hosts place h)) (λ on. leads_there number to e on))))
+    each_conn : (P : Connection → Type 0) → ((number to : ℕ) → slice_get (ends_of d) number ≡ Some to → eqb to place ≡ true → P (new_connection (conn_actor place number) (host_key h) (inlets_of d.hosts place h))) → All P (conns_to d place h)
+    each_conn P p = every_all P (conns_to d place h)
+        (every_joined P (each (conn_begun place (host_key h) (inlets_of d.hosts place h)) (ends_of d))
+        (every_each (Every P) (conn_begun place (host_key h) (inlets_of d.hosts place h)) (ends_of d)
+        (λ number to e. every_if P (eqb to place) (new_connection (conn_actor place number) (host_key h) (inlets_of d.hosts place h)) (λ on. p number to e on))))
 
     -- one connection for each that the plan has to the host
     counted : (f : ℕ → Connection) (plans : List ConnPlan) → length (joined (each (λ number to. cond (eqb to place) (f number ∷ []) []) (map (λ (c : ConnPlan). c.host) plans))) ≡ length (filter (λ (c : ConnPlan). eqb c.host place) plans)
@@ -120,8 +73,8 @@ module _ (d : Doc) where
 
     conns_planned_so : ConnsArePlanned d place h
     conns_planned_so = record {
-      new = each_new place (host_key h) (inlets_of d.hosts place h) (ends_of d) IsNew (λ number. refl);
-      planned = planned;
+      new = each_conn IsNew (λ number to e on. refl);
+      planned = each_conn (IsPlannedTo d place) leads_there;
       count =
           ap (λ (ns : List ℕ). length (joined (each (conn_begun place (host_key h) (inlets_of d.hosts place h)) ns))) (sym ends_are)
           ∙ counted (λ number. new_connection (conn_actor place number) (host_key h) (inlets_of d.hosts place h)) (plan_of d).conn_plans;
