@@ -14,3 +14,5 @@ mod Fitting
 mod Wholes
 mod Booted
 mod Taken
+mod Exporters
+mod Planned

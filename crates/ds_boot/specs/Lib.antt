@@ -5,3 +5,4 @@ pub mod Desks
 pub mod Parts
 pub mod Beginnings
 pub mod Nodes
+pub mod HostsBegin
