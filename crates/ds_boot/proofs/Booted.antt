@@ -19,12 +19,11 @@ use Rattle.ds_setup.specs.Starts.{start_host, start_of}
 use Rattle.ds_setup.proofs.Places.{inside, test_at}
 use Rattle.ds_setup.proofs.Facts.{enough_leaves, leads}
 use Rattle.ds_setup.proofs.Setups.{plan_host}
-use Rattle.ds_boot.specs.declared.node.Node.{Node}
-use Rattle.ds_boot.specs.declared.node.Node.TheVariants.{Running, Silent}
+use Rattle.ds_hosts.specs.Nodes.{NodeState, Running, Silent, conns_of, plain_host}
 use Rattle.ds_boot.specs.Lanes.{MayBegin}
 use Rattle.ds_boot.specs.Parts.{conns_to}
 use Rattle.ds_boot.specs.Beginnings.{AreBegun, IsBegun, IsNodeBegun, state_begun}
-use Rattle.ds_boot.specs.Nodes.{AreHostsOf, IsNodeOf, conns_of, plain_host}
+use Rattle.ds_boot.specs.Nodes.{AreHostsOf, IsNodeOf}
 use Rattle.ds_boot.proofs.Fitting.{host_sizes}
 use Rattle.ds_boot.proofs.Named.{every_all}
 use Rattle.ds_boot.proofs.Rooms.{own_facts}
@@ -37,27 +36,26 @@ same_lists f g (x ∷ xs) [] size same = absurd (omega (arith, size))
 same_lists f g (x ∷ xs) (y ∷ ys) size same = λ j. same 0 x y refl refl j ∷ same_lists f (λ i. g (suc i)) xs ys (omega (arith, size)) (λ i a b e q. same (suc i) a b e q) j
 
 module _ (d : Doc) (is : IsDocument d) where
-  one_host : (place : ℕ) (h : HostSpec) (node : Node) → slice_get d.hosts place ≡ Some h → IsNodeBegun d place h node → plain_host node ≡ start_host d place h
+  one_host : (place : ℕ) (h : HostSpec) (node : NodeState) → slice_get d.hosts place ≡ Some h → IsNodeBegun d place h node → plain_host node ≡ start_host d place h
   one_host place h (Running e) there begun = ap host_of begun.1.state ∙ host_now d is place h there begun.0 e.desk begun.1.desk
   one_host place h (Silent conns) there begun = sym (silent_now d is place h there begun.0)
 
-  one_list : (place : ℕ) (h : HostSpec) (node : Node) → slice_get d.hosts place ≡ Some h → IsNodeBegun d place h node → conns_of node ≡ conns_to d place h
+  one_list : (place : ℕ) (h : HostSpec) (node : NodeState) → slice_get d.hosts place ≡ Some h → IsNodeBegun d place h node → conns_of node ≡ conns_to d place h
   one_list place h (Running e) there begun = ap (λ (x : HostState). x.conns) begun.1.state
   one_list place h (Silent conns) there begun = begun.1
 
   silence : (place : ℕ) (h : HostSpec) → slice_get d.hosts place ≡ Some h → (host_plan (plan_of d) place).silent ≡ is_silent h.secret
   silence place h there = ap (λ (p : HostPlan). p.silent) (plan_host d place h there)
 
-  one_node : (place : ℕ) (h : HostSpec) (node : Node) → slice_get d.hosts place ≡ Some h → IsNodeBegun d place h node → IsNodeOf d place node
+  one_node : (place : ℕ) (h : HostSpec) (node : NodeState) → slice_get d.hosts place ≡ Some h → IsNodeBegun d place h node → IsNodeOf d place node
   one_node place h (Running e) there begun = record {
-    runs = silence place h there ∙ begun.0;
-    site = ap site_of begun.1.state ∙ site_now d is place h there begun.0 e.desk begun.1.desk;
+    plan = ap site_of begun.1.state ∙ site_now d is place h there begun.0 e.desk begun.1.desk;
     host = ap (λ (x : HostState). x.host) begun.1.state;
     stamps = subst (IsBefore 1) (sym begun.1.state) (before_now d is place h there begun.0 e.desk begun.1.desk);
   }
-  one_node place h (Silent conns) there begun = silence place h there ∙ begun.0
+  one_node place h (Silent conns) there begun = record { plan = silence place h there ∙ begun.0; host = tt; stamps = tt }
 
-  pub booted : (nodes : List Node) → AreBegun d nodes → AreHostsOf d nodes
+  pub booted : (nodes : List NodeState) → AreBegun d nodes → AreHostsOf d nodes
   booted nodes begun = record {
     hosts = same_lists plain_host (start_host d) nodes d.hosts begun.count (λ place node h at there. one_host place h node there (begun.each place h node there at));
     nodes = λ place node at.

@@ -48,7 +48,7 @@ use Rattle.ds_boot.specs.Lanes.{blank_lane, lane_begun, lane_cert, lanes_begun}
 use Rattle.ds_boot.specs.Desks.{IsDeskOf}
 use Rattle.ds_boot.specs.Parts.{box_begun, inlet_begun, process_begun, usable_of}
 use Rattle.ds_boot.specs.Beginnings.{state_begun}
-use Rattle.ds_boot.specs.Nodes.{silent_host}
+use Rattle.ds_hosts.specs.Nodes.{silent_host}
 use Rattle.ds_boot.proofs.Inlets.{inlets_silent}
 use Rattle.ds_boot.proofs.Named.{BoxLabel, ProcLabels, box_label, names_back, proc_labels}
 

@@ -2,6 +2,7 @@
 use Rattle.std.proofs.Common.{◌≡◌, ℕ, zero, suc, ◌+◌, ◌<◌, ◌≤◌, List, [], ◌∷◌, ◌++◌, length, length-append, map, get_or, Option, Some, None, slice_get, option_map, refl, sym, ◌∙◌, ap, subst, arith, ◌⊎◌, inl, inr}
 use Rattle.std.specs.declared.alloc.Global.{Global}
 use Rattle.std.specs.Prelude.{Vec}
+use Rattle.std.proofs.lemmas.List.{length-map, map-append}
 use Rattle.std.proofs.lemmas.Option.{none-some, same_Some, slice_get-map, get_or_from_slice_get}
 use Rattle.lms_state.specs.Signers.{Signing}
 use Rattle.ds_exporter.specs.declared.parts.LanePart.{LanePart}
@@ -11,7 +12,8 @@ use Rattle.ds_plan.specs.declared.host.HostSpec.{HostSpec}
 use Rattle.ds_setup.specs.Lists.{each}
 use Rattle.ds_setup.proofs.Places.{each_at}
 use Rattle.ds_setup.proofs.Numbers.{in_either}
-use Rattle.ds_boot.specs.declared.node.Node.{Node}
+use Rattle.ds_hosts.specs.declared.node.Node.{Node}
+use Rattle.ds_hosts.specs.Nodes.{NodeState, node_of}
 use Rattle.ds_boot.specs.Signing.{signer_behind}
 use Rattle.ds_boot.specs.Lanes.{lanes_begun, lanes_of}
 use Rattle.ds_boot.specs.Beginnings.{IsNodeBegun}
@@ -30,18 +32,19 @@ pub lanes_left : (old new : List (Vec LanePart Global)) (j : ℕ) → slice_get 
 lanes_left old new j same = slice_get-map lanes_of new j ∙ (ap (option_map lanes_of) same ∙ sym (slice_get-map lanes_of old j))
 
 -- one host more has begun
-pub one_more_begun : (d : Doc) (at : ℕ) (nodes new : List Node) (host : HostSpec) (made : Node) → length nodes ≡ at → new ≡ nodes ++ made ∷ [] → slice_get d.hosts at ≡ Some host → IsNodeBegun d at host made →
-    ((place : ℕ) (h : HostSpec) (node : Node) → slice_get d.hosts place ≡ Some h → slice_get nodes place ≡ Some node → IsNodeBegun d place h node) →
-    (place : ℕ) (h : HostSpec) (node : Node) → slice_get d.hosts place ≡ Some h → slice_get new place ≡ Some node → IsNodeBegun d place h node
-one_more_begun d at nodes new host made count is there begun before place h node e q = go (in_either nodes (made ∷ []) place node (subst (λ (xs : List Node). slice_get xs place ≡ Some node) is q))
+pub one_more_begun : (d : Doc) (at : ℕ) (nodes new : List Node) (host : HostSpec) (made : Node) → length nodes ≡ at → new ≡ nodes ++ made ∷ [] → slice_get d.hosts at ≡ Some host → IsNodeBegun d at host (node_of made) →
+    ((place : ℕ) (h : HostSpec) (x : NodeState) → slice_get d.hosts place ≡ Some h → slice_get (map node_of nodes) place ≡ Some x → IsNodeBegun d place h x) →
+    (place : ℕ) (h : HostSpec) (x : NodeState) → slice_get d.hosts place ≡ Some h → slice_get (map node_of new) place ≡ Some x → IsNodeBegun d place h x
+one_more_begun d at nodes new host made count is there begun before place h x e q =
+    go (in_either (map node_of nodes) (node_of made ∷ []) place x (subst (λ (xs : List NodeState). slice_get xs place ≡ Some x) (ap (λ (xs : List Node). map node_of xs) is ∙ map-append node_of nodes (made ∷ [])) q))
   where
-    last : (i : ℕ) → place ≡ length nodes + i → slice_get (made ∷ []) i ≡ Some node → IsNodeBegun d place h node
+    last : (i : ℕ) → place ≡ length (map node_of nodes) + i → slice_get (node_of made ∷ []) i ≡ Some x → IsNodeBegun d place h x
     last zero same here =
-        let place_is : at ≡ place = omega (arith, same, count) in
+        let place_is : at ≡ place = omega (arith, same, count, length-map {B = NodeState} nodes node_of) in
         let host_is : host ≡ h = same_Some host h (sym there ∙ (ap (λ k. slice_get d.hosts k) place_is ∙ e)) in
-        subst (λ k. IsNodeBegun d k h node) place_is (subst (λ (x : HostSpec). IsNodeBegun d at x node) host_is (subst (λ (x : Node). IsNodeBegun d at host x) (same_Some made node here) begun))
-    last (suc i) same here = absurd (none-some node here)
+        subst (λ k. IsNodeBegun d k h x) place_is (subst (λ (y : HostSpec). IsNodeBegun d at y x) host_is (subst (λ (y : NodeState). IsNodeBegun d at host y) (same_Some (node_of made) x here) begun))
+    last (suc i) same here = absurd (none-some x here)
 
-    go : (slice_get nodes place ≡ Some node) ⊎ ((i : ℕ) × (place ≡ length nodes + i) × (slice_get (made ∷ []) i ≡ Some node)) → IsNodeBegun d place h node
-    go (inl in_front) = before place h node e in_front
+    go : (slice_get (map node_of nodes) place ≡ Some x) ⊎ ((i : ℕ) × (place ≡ length (map node_of nodes) + i) × (slice_get (node_of made ∷ []) i ≡ Some x)) → IsNodeBegun d place h x
+    go (inl in_front) = before place h x e in_front
     go (inr (i, same, here)) = last i same here

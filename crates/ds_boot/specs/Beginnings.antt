@@ -1,7 +1,7 @@
 -- An exporter before the first event: its parts, as the document says them.
 use Rattle.std.specs.Prelude.{◌≡◌, ℕ, true, false, List, length, map, slice_get, Some}
 use Rattle.ds_desk.specs.Desks.{DeskView}
-use Rattle.ds_exporter.specs.HostStates.{HostState, connection_of}
+use Rattle.ds_exporter.specs.HostStates.{HostState}
 use Rattle.ds_plan.specs.declared.doc.Doc.{Doc}
 use Rattle.ds_plan.specs.declared.host.HostSpec.{HostSpec}
 use Rattle.ds_plan.specs.Keys.{host_key, host_keys}
@@ -10,8 +10,7 @@ use Rattle.ds_setup.specs.Signed.{doc_certs}
 use Rattle.ds_setup.specs.Plans.{inlets_of}
 use Rattle.ds_setup.specs.Starts.{own_addresses}
 use Rattle.ds_boot.specs.declared.hosts.Shared.{Shared}
-use Rattle.ds_boot.specs.declared.node.Node.{Node}
-use Rattle.ds_boot.specs.declared.node.Node.TheVariants.{Running, Silent}
+use Rattle.ds_hosts.specs.Nodes.{NodeState, Running, Silent}
 use Rattle.ds_boot.specs.Desks.{IsDeskOf}
 use Rattle.ds_boot.specs.Lanes.{lanes_begun}
 use Rattle.ds_boot.specs.Parts.{box_begun, conns_to, ends_of, inlet_begun, process_begun}
@@ -42,11 +41,11 @@ pub record IsShared (d : Doc) (s : Shared) : Type 0 where
   pub ends : s.ends.items ≡ ends_of d
 
 -- a host that runs has begun as an exporter, and to a silent one there are the connections
-abbrev pub IsNodeBegun : Doc → (place : ℕ) → HostSpec → Node → Type 0
+abbrev pub IsNodeBegun : Doc → (place : ℕ) → HostSpec → NodeState → Type 0
 IsNodeBegun d place h (Running e) = (is_silent h.secret ≡ false) × IsBegun d place h e
-IsNodeBegun d place h (Silent conns) = (is_silent h.secret ≡ true) × (map connection_of conns.items ≡ conns_to d place h)
+IsNodeBegun d place h (Silent conns) = (is_silent h.secret ≡ true) × (conns ≡ conns_to d place h)
 
 -- and so have all
-pub record AreBegun (d : Doc) (nodes : List Node) : Type 0 where
+pub record AreBegun (d : Doc) (nodes : List NodeState) : Type 0 where
   pub count : length nodes ≡ length d.hosts
-  pub each : (place : ℕ) (h : HostSpec) (node : Node) → slice_get d.hosts place ≡ Some h → slice_get nodes place ≡ Some node → IsNodeBegun d place h node
+  pub each : (place : ℕ) (h : HostSpec) (node : NodeState) → slice_get d.hosts place ≡ Some h → slice_get nodes place ≡ Some node → IsNodeBegun d place h node

@@ -16,7 +16,7 @@ use Rattle.ds_exporter.specs.Stamping.{IsBefore}
 use Rattle.ds_boot.specs.Desks.{IsDeskOf}
 use Rattle.ds_boot.specs.Parts.{conns_to}
 use Rattle.ds_boot.specs.Beginnings.{state_begun}
-use Rattle.ds_boot.specs.Nodes.{silent_host}
+use Rattle.ds_hosts.specs.Nodes.{silent_host}
 
 -- RUNNING HOSTS
 

@@ -1,33 +1,15 @@
--- A host of a document as the program has it: an exporter where it runs, and the connections to it alone where outsiders act
--- for it.
-use Rattle.std.specs.Prelude.{◌≡◌, ℕ, true, false, List, [], map, slice_get, Some}
+-- A document's hosts in a run, before the first event.
+use Rattle.std.specs.Prelude.{◌≡◌, ℕ, false, List, map, slice_get, Some}
 use Rattle.ds_model.specs.Plan.{host_plan}
-use Rattle.ds_model.specs.World.{Host}
-use Rattle.ds_inlet.specs.Connections.{Connection}
-use Rattle.ds_exporter.specs.HostStates.{HostState, connection_of}
-use Rattle.ds_exporter.specs.PlainHosts.{host_of, site_of}
+use Rattle.ds_exporter.specs.HostStates.{HostState}
+use Rattle.ds_exporter.specs.PlainHosts.{site_of}
 use Rattle.ds_exporter.specs.Stamping.{IsBefore}
+use Rattle.ds_hosts.specs.Nodes.{NodeState, Running, Silent, IsEarlier, IsPlanOf, conns_of, plain_host}
 use Rattle.ds_plan.specs.declared.doc.Doc.{Doc}
-use Rattle.ds_setup.specs.Plans.{plan_of}
-use Rattle.ds_setup.specs.Starts.{empty_desk, start_of}
 use Rattle.ds_setup.specs.Lists.{each}
+use Rattle.ds_setup.specs.Plans.{plan_of}
+use Rattle.ds_setup.specs.Starts.{start_of}
 use Rattle.ds_boot.specs.Parts.{conns_to}
-use Rattle.ds_boot.specs.declared.node.Node.{Node}
-use Rattle.ds_boot.specs.declared.node.Node.TheVariants.{Running, Silent}
-
--- a silent host: it has nothing, and no event changes it
-abbrev pub silent_host : Host
-silent_host = record { desk = empty_desk; procs = []; boxes = []; queues = []; workers = []; logs = []; inlets = [] }
-
--- the host in the plain world
-abbrev pub plain_host : Node → Host
-plain_host (Running e) = host_of e
-plain_host (Silent conns) = silent_host
-
--- the connections to it
-abbrev pub conns_of : Node → List Connection
-conns_of (Running e) = e.conns
-conns_of (Silent conns) = map connection_of conns.items
 
 -- an exporter is of the document's host at that place, which runs, and nothing is entered
 pub record IsExporterOf (d : Doc) (place : ℕ) (e : HostState) : Type 0 where
@@ -36,12 +18,19 @@ pub record IsExporterOf (d : Doc) (place : ℕ) (e : HostState) : Type 0 where
   pub host : e.host ≡ place
   pub stamps : IsBefore 1 e
 
-abbrev pub IsNodeOf : Doc → (place : ℕ) → Node → Type 0
-IsNodeOf d place (Running e) = IsExporterOf d place e
-IsNodeOf d place (Silent conns) = (host_plan (plan_of d) place).silent ≡ true
+-- an exporter has that place
+abbrev pub HasPlace : (place : ℕ) → NodeState → Type 0
+HasPlace place (Running e) = e.host ≡ place
+HasPlace place (Silent conns) = Unit {0}
 
--- the nodes are the document's hosts before the first event
-pub record AreHostsOf (d : Doc) (all : List Node) : Type 0 where
+-- a host of the run is the document's at that place, and nothing is entered
+pub record IsNodeOf (d : Doc) (place : ℕ) (x : NodeState) : Type 0 where
+  pub plan : IsPlanOf (host_plan (plan_of d) place) x
+  pub host : HasPlace place x
+  pub stamps : IsEarlier 1 x
+
+-- all of them are the document's hosts as setup says
+pub record AreHostsOf (d : Doc) (all : List NodeState) : Type 0 where
   pub hosts : map plain_host all ≡ (start_of d).hosts
-  pub nodes : (place : ℕ) (node : Node) → slice_get all place ≡ Some node → IsNodeOf d place node
+  pub nodes : (place : ℕ) (x : NodeState) → slice_get all place ≡ Some x → IsNodeOf d place x
   pub conns : map conns_of all ≡ each (conns_to d) d.hosts

@@ -6,20 +6,20 @@ ghost use Rattle.ds_plan.specs.Keys.{host_keys, identity_key};
 ghost use Rattle.ds_plan.specs.Documents.{IsDocument};
 ghost use Rattle.ds_setup.specs.Lists.{each};
 ghost use Rattle.ds_setup.specs.Starts.{start_of};
-ghost use Rattle.ds_boot.specs.declared.node.Node.{Node as NodeSeen};
+ghost use Rattle.ds_hosts.specs.Nodes.{NodeState, conns_of, node_of, plain_host};
 ghost use Rattle.ds_boot.specs.Signing.{signer_behind};
 ghost use Rattle.ds_boot.specs.Lanes.{lanes_begun, lanes_of};
 ghost use Rattle.ds_boot.specs.Parts.{conns_to};
 ghost use Rattle.ds_boot.specs.Beginnings.{AreBegun, IsShared};
-ghost use Rattle.ds_boot.specs.Nodes.{AreHostsOf, IsNodeOf, conns_of, plain_host};
+ghost use Rattle.ds_boot.specs.Nodes.{IsNodeOf};
 
 use crate::begun::begin_hosts;
 use crate::certs::sign_certs;
 use crate::conns::conn_ends;
 use crate::hosts::{Shared, begin_node};
 use crate::keys::{identity_trees, public_keys};
-use crate::node::NodeList;
 use ds_exporter::LaneList;
+use ds_hosts::NodeList;
 use ds_plan::{Doc, HostSpec};
 use lms_sig::TreeKey;
 use lms_state::Signer;
@@ -59,7 +59,7 @@ fn begin_nodes(
     requires hosts { hosts.now ≡ doc.now.hosts }
     requires signers { signers.old ≡ each (signer_behind doc.now.certs) doc.now.hosts }
     requires lanes { map lanes_of lanes.old ≡ each (lanes_begun (host_keys doc.now.hosts)) doc.now.hosts }
-    ensures { IfOk result (λ nodes. AreBegun doc.now nodes.items) }
+    ensures { IfOk result (λ nodes. AreBegun doc.now (map node_of nodes.items)) }
 {
     let mut nodes = Vec::new(alloc);
     for (place, host) in hosts.iter().enumerate() {
@@ -86,7 +86,7 @@ fn begin_all(
 ) -> Result<NodeList, AllocError>
     requires document { IsDocument doc.now }
     requires trees { trees.old ≡ map identity_key doc.now.hosts }
-    ensures { IfOk result (λ nodes. AreBegun doc.now nodes.items) }
+    ensures { IfOk result (λ nodes. AreBegun doc.now (map node_of nodes.items)) }
 {
     let hosts = doc.hosts.as_slice();
     let keys = public_keys(alloc, hosts, trees)?;
@@ -112,9 +112,9 @@ pub fn boot_keyed(
 ) -> Result<NodeList, AllocError>
     requires document { IsDocument doc.now }
     requires trees { trees.items ≡ map identity_key doc.now.hosts }
-    ensures hosts { IfOk result (λ nodes. map plain_host nodes.items ≡ (start_of doc.now).hosts) }
-    ensures nodes { IfOk result (λ nodes. (place : ℕ) (node : NodeSeen) → slice_get nodes.items place ≡ Some node → IsNodeOf doc.now place node) }
-    ensures conns { IfOk result (λ nodes. map conns_of nodes.items ≡ each (conns_to doc.now) doc.now.hosts) }
+    ensures hosts { IfOk result (λ nodes. map plain_host (map node_of nodes.items) ≡ (start_of doc.now).hosts) }
+    ensures nodes { IfOk result (λ nodes. (place : ℕ) (x : NodeState) → slice_get (map node_of nodes.items) place ≡ Some x → IsNodeOf doc.now place x) }
+    ensures conns { IfOk result (λ nodes. map conns_of (map node_of nodes.items) ≡ each (conns_to doc.now) doc.now.hosts) }
 {
     let mut trees = trees;
     let nodes = begin_all(alloc, doc, &mut trees)?;
@@ -125,9 +125,9 @@ pub fn boot_keyed(
 /// connections to it. `AllocError` where memory runs out.
 pub fn boot(alloc: Global, doc: &Doc) -> Result<NodeList, AllocError>
     requires { IsDocument doc.now }
-    ensures hosts { IfOk result (λ nodes. map plain_host nodes.items ≡ (start_of doc.now).hosts) }
-    ensures nodes { IfOk result (λ nodes. (place : ℕ) (node : NodeSeen) → slice_get nodes.items place ≡ Some node → IsNodeOf doc.now place node) }
-    ensures conns { IfOk result (λ nodes. map conns_of nodes.items ≡ each (conns_to doc.now) doc.now.hosts) }
+    ensures hosts { IfOk result (λ nodes. map plain_host (map node_of nodes.items) ≡ (start_of doc.now).hosts) }
+    ensures nodes { IfOk result (λ nodes. (place : ℕ) (x : NodeState) → slice_get (map node_of nodes.items) place ≡ Some x → IsNodeOf doc.now place x) }
+    ensures conns { IfOk result (λ nodes. map conns_of (map node_of nodes.items) ≡ each (conns_to doc.now) doc.now.hosts) }
 {
     let trees = identity_trees(alloc, doc.hosts.as_slice())?;
     boot_keyed(alloc, doc, trees)

@@ -9,6 +9,7 @@ ghost use Rattle.ds_plan.specs.Documents.{IsDocument, is_silent};
 ghost use Rattle.ds_setup.specs.Signed.{doc_certs, leaf_behind};
 ghost use Rattle.ds_setup.specs.Plans.{inlets_of};
 ghost use Rattle.ds_setup.specs.Starts.{own_addresses};
+ghost use Rattle.ds_hosts.specs.Nodes.{node_of};
 ghost use Rattle.ds_boot.specs.Signers.{identity_tree, signing_at};
 ghost use Rattle.ds_boot.specs.Signing.{signer_behind};
 ghost use Rattle.ds_boot.specs.Lanes.{lanes_begun, lanes_of};
@@ -18,10 +19,10 @@ ghost use Rattle.ds_boot.specs.Beginnings.{IsBegun, IsNodeBegun, IsShared};
 use crate::certs::KeptCertList;
 use crate::conns::{begin_conns, begin_inlets, inlet_names};
 use crate::desks::begin_desk;
-use crate::node::Node;
 use crate::procs::{begin_boxes, begin_processes};
 use ds_cert::Address;
 use ds_exporter::{ConnList, Exporter, LaneList};
+use ds_hosts::Node;
 use ds_inlet::InletNames;
 use ds_label::PubKey;
 use ds_plan::{Doc, HostSpec};
@@ -128,7 +129,7 @@ pub fn begin_node(
     requires there { slice_get doc.now.hosts place ≡ Some host.now }
     requires signer { signer ≡ signer_behind doc.now.certs place host.now }
     requires lanes { lanes_of lanes ≡ lanes_begun (host_keys doc.now.hosts) place host.now }
-    ensures { IfOk result (λ node. IsNodeBegun doc.now place host.now node) }
+    ensures { IfOk result (λ node. IsNodeBegun doc.now place host.now (node_of node)) }
 {
     let hosts = doc.hosts.as_slice();
     let names = inlet_names(alloc, hosts, shared.keys.as_slice(), place, host)?;

@@ -10,10 +10,8 @@ mod hosts;
 mod keys;
 mod lanes;
 mod laws;
-mod node;
 mod procs;
 mod signing;
 
 pub use booting::{boot, boot_keyed};
 pub use laws::{connections_begin_so, hosts_begin_so, silent_hosts_begin_so};
-pub use node::{Node, NodeList};

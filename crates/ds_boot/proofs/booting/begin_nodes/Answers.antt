@@ -9,7 +9,8 @@ use Rattle.ds_plan.specs.declared.host.HostSpec.{HostSpec}
 use Rattle.ds_plan.specs.Keys.{host_keys}
 use Rattle.ds_setup.specs.Lists.{each}
 use Rattle.ds_setup.proofs.Places.{length-each}
-use Rattle.ds_boot.specs.declared.node.Node.{Node}
+use Rattle.ds_hosts.specs.declared.node.Node.{Node}
+use Rattle.ds_hosts.specs.Nodes.{NodeState, node_of}
 use Rattle.ds_boot.specs.Signing.{signer_behind}
 use Rattle.ds_boot.specs.Lanes.{lanes_begun, lanes_of}
 use Rattle.ds_boot.proofs.Lists.{behind_set, length_set, there_at}
@@ -19,7 +20,7 @@ use Rattle.ds_boot.proofs.booting.begin_nodes.Goals as goal
 pub loop-place-init : goal.loop-place-init
 loop-place-init c = record {
   count = ap (λ (xs : List Node). length xs) c.new-nodes.ensures.items;
-  begun = λ place h node e q. absurd (none-some node (ap (λ (xs : List Node). slice_get xs place) (sym c.new-nodes.ensures.items) ∙ q));
+  begun = λ place h x e q. absurd (none-some x (ap (λ (xs : List Node). slice_get (map node_of xs) place) (sym c.new-nodes.ensures.items) ∙ q));
   signer_count = ap (λ (xs : List (Option Signing)). length xs) c.requires.signers ∙ length-each (signer_behind c.args.doc.now.certs) c.args.doc.now.hosts;
   signers = λ j le. ap (λ (xs : List (Option Signing)). slice_get xs j) c.requires.signers;
   lane_count = sym (length-map {B = List HostLane} c.args.lanes.now lanes_of) ∙ (ap (λ (xs : List (List HostLane)). length xs) c.requires.lanes ∙ length-each (lanes_begun (host_keys c.args.doc.now.hosts)) c.args.doc.now.hosts);

@@ -2,7 +2,7 @@ use Rattle.std.proofs.Common.{◌≡◌, ◌≤◌, ℕ, Some, slice_get, length
 use Rattle.ds_plan.specs.declared.host.HostSpec.{HostSpec}
 use Rattle.ds_plan.specs.Keys.{host_keys}
 use Rattle.ds_setup.specs.Lists.{each}
-use Rattle.ds_boot.specs.declared.node.Node.{Node}
+use Rattle.ds_hosts.specs.Nodes.{NodeState, node_of}
 use Rattle.ds_boot.specs.Signing.{signer_behind}
 use Rattle.ds_boot.specs.Lanes.{lanes_begun, lanes_of}
 use Rattle.ds_boot.specs.Beginnings.{IsNodeBegun}
@@ -12,7 +12,7 @@ abbrev pub invariant-loop-place : goal.invariant-loop-place
 invariant-loop-place l =
     record {
       count : length l.nodes.items ≡ l.place;
-      begun : (place : ℕ) (h : HostSpec) (node : Node) → slice_get l.doc.hosts place ≡ Some h → slice_get l.nodes.items place ≡ Some node → IsNodeBegun l.doc place h node;
+      begun : (place : ℕ) (h : HostSpec) (x : NodeState) → slice_get l.doc.hosts place ≡ Some h → slice_get (map node_of l.nodes.items) place ≡ Some x → IsNodeBegun l.doc place h x;
       signer_count : length l.signers ≡ length l.doc.hosts;
       signers : (j : ℕ) → l.place ≤ j → slice_get l.signers j ≡ slice_get (each (signer_behind l.doc.certs) l.doc.hosts) j;
       lane_count : length l.lanes ≡ length l.doc.hosts;
