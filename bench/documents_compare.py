@@ -3,9 +3,9 @@
 
     documents_compare.py OURS REFERENCE SEED COUNT [--lines]
 
-Both are run as `PROGRAM sim`, a document on standard input; status 0 counts as read, status 5 as refused with the
+Both are run as `PROGRAM sim`, a document on standard input; with status 0 their texts are compared, with status 5 the
 code and the place that standard error tells. With --lines OURS is run once: it gets the documents in hex, a line
-each, and writes of each `ok`, or the code and the place. Where they differ, the document is written to
+each, and writes of each `ok`, or the code and the place; texts aren't compared then. Where they differ, the document is written to
 differ-SEED-NUMBER.json here.
 """
 import collections
@@ -23,13 +23,13 @@ HEX = "0123456789abcdef"
 
 
 def answer(program, document):
-    """What `program sim` answers to the document, run in a folder of its own."""
+    """What `program sim` answers to the document, run in a folder of its own: its text, or the code and the place."""
     with tempfile.TemporaryDirectory() as folder:
         done = subprocess.run([program, "sim"], input=document, capture_output=True, cwd=folder)
     if done.returncode == 5:
         words = done.stderr.decode().split()
         return f"{words[2]} {words[4]}"
-    return "ok" if done.returncode == 0 else f"status {done.returncode}"
+    return "ok\n" + done.stdout.decode() if done.returncode == 0 else f"status {done.returncode}"
 
 
 def answers_by_lines(program, documents):
@@ -534,6 +534,7 @@ def main():
     with ThreadPoolExecutor(os.cpu_count()) as workers:
         theirs = list(workers.map(lambda document: answer(reference, document), documents))
         if "--lines" in sys.argv:
+            theirs = [other.split("\n")[0] for other in theirs]
             mine = answers_by_lines(ours, documents)
         else:
             mine = list(workers.map(lambda document: answer(ours, document), documents))
@@ -547,7 +548,7 @@ def main():
             name = f"differ-{seed}-{number}.json"
             with open(name, "wb") as file:
                 file.write(documents[number])
-            print(f"{name}: ours {one}, the reference {other}")
+            print(f"{name}: ours {one.split(chr(10))[0]}, the reference {other.split(chr(10))[0]}")
     print(f"compared {count}, differ {differ}, by answer {dict(sorted(tally.items()))}")
     sys.exit(1 if differ else 0)
 

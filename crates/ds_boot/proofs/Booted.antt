@@ -1,10 +1,8 @@
 -- Hosts that have begun are the document's hosts before the first event.
-use Rattle.std.proofs.Common.{◌≡◌, ℕ, zero, suc, ◌+◌, ◌<◌, ◌≤◌, true, false, List, [], ◌∷◌, length, map, Some, None, slice_get, option_map, refl, sym, ◌∙◌, ap, subst, arith}
+use Rattle.std.proofs.Common.{◌≡◌, ℕ, suc, ◌<◌, List, [], ◌∷◌, length, map, Some, slice_get, refl, sym, ◌∙◌, ap, subst, arith}
 use Rattle.std.specs.Prelude.{All}
 use Rattle.std.proofs.lemmas.Option.{slice_get_within}
-use Rattle.lms_sig.specs.Parameters.{leaf_count}
 use Rattle.ds_model.specs.Plan.{HostPlan, host_plan}
-use Rattle.ds_inlet.specs.Connections.{Connection}
 use Rattle.ds_exporter.specs.HostStates.{HostState}
 use Rattle.ds_exporter.specs.PlainHosts.{host_of, site_of}
 use Rattle.ds_exporter.specs.Stamping.{IsBefore}
@@ -13,16 +11,15 @@ use Rattle.ds_plan.specs.declared.host.HostSpec.{HostSpec}
 use Rattle.ds_plan.specs.declared.host.LaneSpec.{LaneSpec}
 use Rattle.ds_plan.specs.Documents.{IsDocument, has_host_sizes, is_silent}
 use Rattle.ds_setup.specs.Lists.{each}
-use Rattle.ds_setup.specs.Signed.{address_leaves}
 use Rattle.ds_setup.specs.Plans.{plan_of}
-use Rattle.ds_setup.specs.Starts.{start_host, start_of}
+use Rattle.ds_setup.specs.Starts.{start_host}
 use Rattle.ds_setup.proofs.Places.{inside, test_at}
 use Rattle.ds_setup.proofs.Facts.{enough_leaves, leads}
 use Rattle.ds_setup.proofs.Setups.{plan_host}
 use Rattle.ds_hosts.specs.Nodes.{NodeState, Running, Silent, conns_of, plain_host}
 use Rattle.ds_boot.specs.Lanes.{MayBegin}
 use Rattle.ds_boot.specs.Parts.{conns_to}
-use Rattle.ds_boot.specs.Beginnings.{AreBegun, IsBegun, IsNodeBegun, state_begun}
+use Rattle.ds_boot.specs.Beginnings.{AreBegun, IsNodeBegun}
 use Rattle.ds_boot.specs.Nodes.{AreHostsOf, IsNodeOf}
 use Rattle.ds_boot.proofs.Fitting.{host_sizes}
 use Rattle.ds_boot.proofs.Named.{every_all}

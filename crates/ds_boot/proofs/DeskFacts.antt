@@ -1,18 +1,16 @@
 -- What a document keeps of a host's desk.
-use Rattle.std.proofs.Common.{◌≡◌, ℕ, zero, suc, ◌+◌, ◌<◌, ◌≤◌, Bool, true, false, ◌&&◌, ◌||◌, cond, List, [], ◌∷◌, ◌++◌, length, length-append, map, filter, get_or, Option, Some, None, slice_get, refl, sym, ◌∙◌, ap, ap₂, subst, arith}
+use Rattle.std.proofs.Common.{◌≡◌, ℕ, zero, suc, ◌+◌, ◌≤◌, Bool, true, false, ◌||◌, cond, List, [], ◌∷◌, ◌++◌, length, map, filter, Some, slice_get, refl, sym, ◌∙◌, ap, subst, arith}
 use Rattle.std.specs.Prelude.{bytes_eq, nat_le, All}
-use Rattle.std.specs.List.{list_all, flat_map, fold, AllByRecursion}
+use Rattle.std.specs.List.{list_all, flat_map, AllByRecursion}
 use Rattle.std.proofs.lemmas.Bool.{and_parts, leb-true}
 use Rattle.std.proofs.lemmas.List.Sums.{fold-append}
 use Rattle.ds_label.specs.declared.category.Category.{Category}
 use Rattle.ds_cert.specs.declared.address.Address.{Address}
 use Rattle.ds_cert.specs.declared.delegation.Delegation.{Delegation}
-use Rattle.ds_cert.specs.declared.cert.Cert.{Cert}
 use Rattle.ds_cert.specs.declared.cert.Cert.TheVariants as certs
 use Rattle.ds_cert.specs.NoDoubles.{with_address}
 use Rattle.ds_cert.specs.Ranges.{AddressFits, AddressRange, CertRange}
 use Rattle.ds_cert.specs.Spelling.{signed_part_of_delegation}
-use Rattle.ds_model.specs.Desk.{Desk}
 use Rattle.ds_desk.specs.Signing.{key_of, unsigned}
 use Rattle.ds_scheme.proofs.Owns.{signature_fits}
 use Rattle.ds_plan.specs.declared.doc.Doc.{Doc}

@@ -1,8 +1,8 @@
 -- A host's inlets are told apart.
-use Rattle.std.proofs.Common.{◌≡◌, ◌≢◌, ℕ, zero, suc, ◌+◌, ◌-◌, ◌<◌, ◌≤◌, Bool, true, false, cond, List, [], ◌∷◌, ◌++◌, length, map, get_or, Option, Some, None, slice_get, option_map, refl, sym, ◌∙◌, ap, subst, arith, eqb, eqb-true, eq-eqb}
-use Rattle.std.specs.Prelude.{◌&&◌, not}
+use Rattle.std.proofs.Common.{◌≡◌, ◌≢◌, ℕ, zero, suc, ◌+◌, ◌-◌, ◌<◌, Bool, true, false, cond, List, [], ◌∷◌, ◌++◌, length, map, Option, Some, slice_get, option_map, refl, sym, ◌∙◌, ap, subst, arith, eqb, eqb-true, eq-eqb}
+use Rattle.std.specs.Prelude.{not}
 use Rattle.std.specs.List.{list_all}
-use Rattle.std.proofs.lemmas.Bool.{and_from, and_parts, cond-true, cond-false, not-true, ltb-true}
+use Rattle.std.proofs.lemmas.Bool.{and_from, and_parts, cond-false, not-true, ltb-true}
 use Rattle.std.proofs.lemmas.Option.{none-some, same_Some, slice_get-map}
 use Rattle.std.proofs.lemmas.Slice.Eq.{bytes_eq-Decides}
 use Rattle.ds_label.specs.declared.category.PubKey.{PubKey}
@@ -15,11 +15,10 @@ use Rattle.ds_plan.specs.Keys.{host_key, host_keys, same_key}
 use Rattle.ds_plan.specs.Categories.{is_place}
 use Rattle.ds_plan.specs.Documents.{IsDocument, are_different, are_inlets_new, comes_by_lane, lane_leads, leads_to, is_silent, named_hosts, receivers, same_inlet, script_hosts}
 use Rattle.ds_setup.specs.Lists.{each, joined}
-use Rattle.ds_setup.specs.Keys.{key_at}
 use Rattle.ds_setup.specs.Plans.{declared_inlet, inlets_from, inlets_of, lane_inlet}
 use Rattle.ds_setup.proofs.Places.{from_each, from_map, inside, one_place, place_at, test_append, test_at}
 use Rattle.ds_setup.proofs.Facts.{key_there}
-use Rattle.ds_boot.proofs.Pairs.{InJoined, Pairs, differ, in_joined, pairs_append, pairs_joined, pairs_map}
+use Rattle.ds_boot.proofs.Pairs.{Pairs, differ, in_joined, pairs_append, pairs_joined, pairs_map}
 
 -- two names are of two exporters, or of two lanes
 abbrev pub Differ : InletName → InletName → Type 0

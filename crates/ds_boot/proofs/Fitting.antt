@@ -1,6 +1,6 @@
 -- The parts of a host that begins fit together.
-use Rattle.std.proofs.Common.{◌≡◌, ◌≢◌, ℕ, zero, suc, ◌+◌, ◌<◌, ◌≤◌, ◌^◌, Bool, true, false, cond, List, [], ◌∷◌, ◌++◌, length, length-append, map, get_or, Option, Some, None, slice_get, option_map, refl, sym, ◌∙◌, ap, ap₂, subst, arith, eqb, eq-eqb}
-use Rattle.std.specs.Prelude.{◌&&◌, All, AllPairs, nat_eq, IsTrue}
+use Rattle.std.proofs.Common.{◌≡◌, ℕ, zero, suc, ◌<◌, ◌≤◌, Bool, true, false, cond, List, [], ◌∷◌, ◌++◌, length, map, Some, None, slice_get, option_map, refl, sym, ◌∙◌, ap, subst, arith, eqb, eq-eqb}
+use Rattle.std.specs.Prelude.{All, nat_eq}
 use Rattle.std.specs.List.{list_all, flat_map}
 use Rattle.std.proofs.lemmas.Bool.{and_from, and_parts, cond-true, leb-true, ltb-true}
 use Rattle.std.proofs.lemmas.List.{length-map}
@@ -15,15 +15,12 @@ use Rattle.ds_script.specs.declared.actor.Actor.{Actor}
 use Rattle.ds_script.specs.declared.actor.ActorKind.TheVariants as kinds
 use Rattle.ds_script.specs.declared.op.Op.{Op}
 use Rattle.ds_script.specs.declared.op.Op.TheVariants.{Set, Join, IfEq, Jump, Print, Send, Take, SetLabel, NewCat, Delegate, Map, Import}
-use Rattle.ds_script.specs.declared.usable.Usable.{Usable}
 use Rattle.ds_model.specs.Desk.{Desk}
-use Rattle.ds_model.specs.Keys.{key_of, no_key}
 use Rattle.ds_model.specs.Mapping.{is_known, number_of}
 use Rattle.ds_model.specs.Scheme.{InletName}
-use Rattle.ds_map.specs.Table.{IsTable}
 use Rattle.ds_desk.specs.Desks.{DeskView}
 use Rattle.ds_inlet.specs.Connections.{Connection, new_connection}
-use Rattle.ds_exporter.specs.HostStates.{HostBox, HostLane, HostProcess}
+use Rattle.ds_exporter.specs.HostStates.{HostLane, HostProcess}
 use Rattle.ds_exporter.specs.PlainHosts.{name_of_inlet}
 use Rattle.ds_exporter.specs.Conditions.{AreLaneActors, AreNumbered, AreTwoInlets, AreTwoLanes, ComesBefore, HandHasLane, HasHelloFirst, HasBox, HaveTwoSlots, IsBoxNamed, IsConnNamed, IsConnOf, IsFit, IsGoing, IsLaneOf, IsNumbered, IsOwned, IsPassedNamed, IsProcNamed, LeadsTo, OpReaches, PassedHasBox, Reaches}
 use Rattle.ds_plan.specs.declared.doc.Doc.{Doc}
@@ -35,10 +32,9 @@ use Rattle.ds_plan.specs.declared.process.BoxSpec.{BoxSpec}
 use Rattle.ds_plan.specs.Keys.{host_key, host_keys}
 use Rattle.ds_plan.specs.Categories.{is_place}
 use Rattle.ds_plan.specs.Documents.{IsDocument, are_different, has_at_most, has_host_sizes, is_silent, named_hosts, op_hosts, same_lane, script_hosts}
-use Rattle.ds_setup.specs.Lists.{each, joined}
-use Rattle.ds_setup.specs.Keys.{key_at}
+use Rattle.ds_setup.specs.Lists.{each}
 use Rattle.ds_setup.specs.Plans.{inlets_of}
-use Rattle.ds_setup.proofs.Places.{Every, each_at, every_joined, from_each, inside, length-each, test_append, test_at, test_flat}
+use Rattle.ds_setup.proofs.Places.{each_at, every_joined, from_each, inside, length-each, test_append, test_at, test_flat}
 use Rattle.ds_setup.proofs.Facts.{key_there, leads}
 use Rattle.ds_boot.specs.Desks.{IsDeskOf}
 use Rattle.ds_boot.specs.Lanes.{lane_begun, lanes_begun}

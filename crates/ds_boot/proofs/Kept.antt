@@ -1,11 +1,11 @@
 -- Lists of certificates that grow by those that are new.
-use Rattle.std.proofs.Common.{◌≡◌, ℕ, zero, suc, ◌+◌, ◌<◌, ◌≤◌, Bool, true, false, List, [], ◌∷◌, ◌++◌, length, length-append, get_or, drop, cond, refl, sym, ◌∙◌, ap, subst, arith}
+use Rattle.std.proofs.Common.{◌≡◌, ℕ, ◌+◌, ◌<◌, ◌≤◌, Bool, true, false, List, [], ◌∷◌, ◌++◌, length, length-append, get_or, drop, cond, sym, ◌∙◌, ap, subst, arith}
 use Rattle.std.specs.List.{flat_map}
 use Rattle.std.proofs.lemmas.List.{drop_more}
 use Rattle.std.proofs.lemmas.List.Sums.{fold-append}
 use Rattle.ds_cert.specs.declared.address.Address.{Address}
 use Rattle.ds_cert.specs.declared.delegation.Delegation.{Delegation}
-use Rattle.ds_cert.specs.NoDoubles.{is_kept, is_kept_address, with_address, with_delegation}
+use Rattle.ds_cert.specs.NoDoubles.{is_kept_address, with_address, with_delegation}
 use Rattle.ds_boot.specs.Desks.{with_addresses, with_delegations}
 
 -- a list never gets shorter

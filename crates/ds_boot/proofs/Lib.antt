@@ -15,4 +15,4 @@ mod Wholes
 mod Booted
 mod Taken
 mod Exporters
-mod Planned
+pub mod Planned

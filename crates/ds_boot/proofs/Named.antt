@@ -1,5 +1,5 @@
 -- Labels of a host's processes and mailboxes by their numbers: they are known, and their numbers have names.
-use Rattle.std.proofs.Common.{◌≡◌, ℕ, zero, suc, ◌+◌, ◌/◌, ◌%◌, ◌^◌, ◌<◌, ◌≤◌, Bool, true, false, ◌&&◌, ◌||◌, cond, List, [], ◌∷◌, ◌++◌, length, map, Some, None, slice_get, refl, sym, ◌∙◌, ap, ap₂, subst, arith}
+use Rattle.std.proofs.Common.{◌≡◌, ℕ, ◌/◌, ◌%◌, ◌^◌, ◌≤◌, Bool, true, false, ◌&&◌, ◌||◌, List, [], ◌∷◌, ◌++◌, map, Some, slice_get, refl, ◌∙◌, arith}
 use Rattle.std.specs.Prelude.{nat_le, nat_lt, All}
 use Rattle.std.specs.List.{list_all, flat_map}
 use Rattle.std.proofs.lemmas.Bool.{and_parts, and_from, or_left, or_right, leb-true, lt-ltb}
@@ -9,7 +9,7 @@ use Rattle.ds_label.specs.Flow.{has, IsRising}
 use Rattle.ds_label.specs.Names.{by_name}
 use Rattle.ds_label.specs.Numbers.{by_number}
 use Rattle.ds_label.proofs.Namings.{names, numbers}
-use Rattle.ds_model.specs.Mapping.{is_home, is_known, number_of}
+use Rattle.ds_model.specs.Mapping.{is_known, number_of}
 use Rattle.ds_map.specs.Table.{IsTable}
 use Rattle.ds_map.specs.Labels.{are_known, has_name, have_names, named, numbered}
 use Rattle.ds_map.proofs.Bridge.{has-image}

@@ -1,10 +1,10 @@
 -- What holds of each two things of a list, by their places.
-use Rattle.std.proofs.Common.{◌≡◌, ◌≢◌, ℕ, zero, suc, ◌+◌, ◌<◌, ◌≤◌, Bool, true, false, List, [], ◌∷◌, ◌++◌, length, length-append, map, get_or, Option, Some, None, slice_get, option_map, refl, sym, ◌∙◌, ap, subst, arith, ◌⊎◌, inl, inr}
+use Rattle.std.proofs.Common.{◌≡◌, ℕ, zero, suc, ◌+◌, ◌<◌, Bool, true, List, [], ◌∷◌, ◌++◌, length, map, get_or, Some, slice_get, refl, sym, subst, arith, ◌⊎◌, inl, inr}
 use Rattle.std.specs.List.{AllPairs}
-use Rattle.std.proofs.lemmas.Option.{none-some, same_Some, get_or_from_slice_get}
+use Rattle.std.proofs.lemmas.Option.{none-some, get_or_from_slice_get}
 use Rattle.ds_plan.specs.Documents.{are_different}
 use Rattle.ds_setup.specs.Lists.{each, joined}
-use Rattle.ds_setup.proofs.Places.{Every, from_each, from_map, inside, one_place}
+use Rattle.ds_setup.proofs.Places.{from_each, from_map, inside, one_place}
 use Rattle.ds_setup.proofs.Numbers.{in_either}
 
 abbrev pub Pairs : {X : Type 0} → (X → X → Type 0) → List X → Type 0

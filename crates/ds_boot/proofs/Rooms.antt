@@ -1,32 +1,30 @@
 -- A desk has room for each host's own address certificate and those of the document.
-use Rattle.std.proofs.Common.{◌≡◌, ℕ, zero, suc, ◌+◌, ◌-◌, ◌^◌, ◌<◌, ◌≤◌, Bool, true, false, ◌&&◌, ◌||◌, cond, List, [], ◌∷◌, ◌++◌, length, map, get_or, Option, Some, None, slice_get, refl, sym, ◌∙◌, ap, ap₂, subst, arith, eqb, eqb-true}
-use Rattle.std.specs.Prelude.{bytes_eq, nat_le, nat_lt, not, All}
-use Rattle.std.specs.List.{list_all, list_any, flat_map, AllByRecursion}
+use Rattle.std.proofs.Common.{◌≡◌, ℕ, ◌≤◌, Bool, true, false, ◌||◌, cond, List, [], ◌∷◌, ◌++◌, length, map, Option, Some, None, refl, sym, ◌∙◌, ap, ap₂, subst, arith, eqb, eqb-true}
+use Rattle.std.specs.Prelude.{bytes_eq, nat_le}
+use Rattle.std.specs.List.{list_all, flat_map, AllByRecursion}
 use Rattle.std.proofs.lemmas.Bool.{and_parts, leb-true}
 use Rattle.std.proofs.lemmas.List.{length-map, map-append}
 use Rattle.std.proofs.lemmas.Slice.Eq.{bytes_eq-Decides}
 use Rattle.lms_sig.specs.declared.params.Params.{Params}
 use Rattle.lms_sig.specs.Keys.{derived_seed, derived_id}
 use Rattle.ds_cert.specs.declared.address.Address.{Address}
-use Rattle.ds_cert.specs.declared.cert.Cert.{Cert}
 use Rattle.ds_cert.specs.declared.cert.Cert.TheVariants as certs
-use Rattle.ds_cert.specs.NoDoubles.{is_kept_address, same_address, with_address}
-use Rattle.ds_cert.specs.Ranges.{AddressFits, AddressTextFits, is_letter}
+use Rattle.ds_cert.specs.NoDoubles.{is_kept_address, same_address}
+use Rattle.ds_cert.specs.Ranges.{AddressFits, is_letter}
 use Rattle.ds_cert.specs.Reading.{address_at}
 use Rattle.ds_cert.specs.Spelling.{signed_part_of_address, spelling_of_address}
 use Rattle.ds_cert.proofs.Steps.{prefix_free}
 use Rattle.ds_cert.proofs.RecordLaws.{is_address as is_address_law}
 use Rattle.ds_cert.proofs.Same.{address_itself}
 use Rattle.ds_scheme.proofs.Owns.{signature_fits}
-use Rattle.ds_plan.specs.declared.doc.Doc.{Doc}
 use Rattle.ds_plan.specs.declared.host.HostSpec.{HostSpec}
 use Rattle.ds_plan.specs.declared.host.Secret.{Secret}
 use Rattle.ds_plan.specs.declared.host.Secret.TheVariants.{Seed, Key}
 use Rattle.ds_plan.specs.declared.cert.CertSpec.{CertSpec}
 use Rattle.ds_plan.specs.declared.cert.CertSpec.TheVariants.{Made, Given}
 use Rattle.ds_plan.specs.Signed.{signed_address, unsigned_address, signature_by}
-use Rattle.ds_plan.specs.Documents.{GivenAddress, address_given, each_once, given_addresses, has_host_sizes, has_secret_length, is_address, is_address_if_some, is_address_in_range, is_among, is_between, is_spec_in_range, kept_addresses, made_address, made_addresses, stood}
-use Rattle.ds_setup.specs.Signed.{DocCert, doc_cert, doc_certs_behind}
+use Rattle.ds_plan.specs.Documents.{GivenAddress, each_once, given_addresses, has_host_sizes, has_secret_length, is_address, is_address_if_some, is_address_in_range, is_among, is_between, is_spec_in_range, kept_addresses, made_address, made_addresses, stood}
+use Rattle.ds_setup.specs.Signed.{doc_certs_behind}
 use Rattle.ds_setup.specs.Starts.{own_address, own_addresses}
 use Rattle.ds_setup.proofs.Facts.{key_fits}
 use Rattle.ds_boot.specs.Desks.{IsTyped, IsTypedAddress, addresses_for, with_addresses}
@@ -195,16 +193,18 @@ own_fit identity (Seed secret) None size text = tt
 own_fit identity (Key key) o size text = tt
 own_fit identity (Seed secret) (Some address) size text =
     let parts = and_parts (is_between 1 64 (length address)) (list_all is_letter address) text in
-    let ends = and_parts (nat_le 1 (length address)) (nat_le (length address) 64) parts.0 in
-    (record {
-      exporter = key_fits identity (Seed secret) size;
-      from = omega arith;
-      until = omega arith;
-      range = record {
-        address = record { some = leb-true _ _ ends.0; most = leb-true _ _ ends.1; letters = parts.1 };
-        signature = short identity (Seed secret) 0 (signed_part_of_address (unsigned_address identity (Seed secret) address));
-      };
-    }, tt)
+    let ends = and_parts (nat_le 1 (length address)) (nat_le (length address) 64) parts.0 in (
+      record {
+        exporter = key_fits identity (Seed secret) size;
+        from = omega arith;
+        until = omega arith;
+        range = record {
+          address = record { some = leb-true _ _ ends.0; most = leb-true _ _ ends.1; letters = parts.1 };
+          signature = short identity (Seed secret) 0 (signed_part_of_address (unsigned_address identity (Seed secret) address));
+        };
+      },
+      tt,
+    )
 
 made_is : (identity : Params) (s : Secret) (o : Option (List ℕ)) → is_address_if_some o ≡ true → made_address identity s o ≡ map spelling_of_address (own_address identity s o)
 made_is identity (Seed secret) None text = refl

@@ -1,9 +1,7 @@
 -- Rows of a table: they are known, and no two are one category or have one number.
-use Rattle.std.proofs.Common.{◌≡◌, ◌≢◌, ℕ, zero, suc, ◌+◌, ◌<◌, ◌≤◌, Bool, true, false, ◌&&◌, ◌||◌, not, List, [], ◌∷◌, ◌++◌, length, get_or, take, map, Some, slice_get, refl, sym, ◌∙◌, ap, subst, arith}
-use Rattle.std.specs.List.{list_all, list_any, AllPairs}
+use Rattle.std.proofs.Common.{◌≡◌, ◌≢◌, ℕ, zero, suc, ◌<◌, Bool, true, false, ◌||◌, not, List, [], ◌∷◌, ◌++◌, length, get_or, take, map, refl, sym, ◌∙◌, ap, subst, arith}
+use Rattle.std.specs.List.{list_all}
 use Rattle.std.proofs.lemmas.Bool.{and_parts, or_parts, or_left, or_right, not-true}
-use Rattle.std.proofs.lemmas.List.Folds.{list_any-append}
-use Rattle.std.proofs.lemmas.Option.{same_Some, slice_get-map}
 use Rattle.ds_label.specs.declared.category.PubKey.{PubKey}
 use Rattle.ds_label.specs.declared.category.Category.{Category}
 use Rattle.ds_label.specs.Flow.{has}
@@ -65,9 +63,10 @@ module _ (here : PubKey) (rows : List Category) (table : IsTable here rows) wher
   rows_apart i j u lt below =
       let there : j < length rows = omega (arith, below, length_mapped (usable_of here rows) rows) in
       let first = mapped_at (usable_of here rows) rows i u u.category (omega (arith, lt, there)) in
-      let second = mapped_at (usable_of here rows) rows j u u.category there in
-      (λ same. rows_differ rows i j u.category table.once lt there (sym (ap (λ (v : Usable). v.category) first) ∙ (same ∙ ap (λ (v : Usable). v.category) second)),
-      λ same. numbers_differ i j u.category lt there (sym (ap (λ (v : Usable). v.local) first) ∙ (same ∙ ap (λ (v : Usable). v.local) second)))
+      let second = mapped_at (usable_of here rows) rows j u u.category there in (
+        λ same. rows_differ rows i j u.category table.once lt there (sym (ap (λ (v : Usable). v.category) first) ∙ (same ∙ ap (λ (v : Usable). v.category) second)),
+        λ same. numbers_differ i j u.category lt there (sym (ap (λ (v : Usable). v.local) first) ∙ (same ∙ ap (λ (v : Usable). v.local) second)),
+      )
 
 -- ---- a document's rows make a table
 

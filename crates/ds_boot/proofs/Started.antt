@@ -1,27 +1,20 @@
 -- The host that an exporter begins as is setup's.
-use Rattle.std.proofs.Common.{◌≡◌, ℕ, zero, suc, ◌+◌, ◌-◌, ◌<◌, ◌≤◌, Bool, true, false, cond, List, [], ◌∷◌, ◌++◌, length, map, Option, Some, None, slice_get, refl, sym, ◌∙◌, ap, ap₂, subst, arith}
+use Rattle.std.proofs.Common.{◌≡◌, ℕ, zero, suc, ◌+◌, ◌<◌, Bool, true, false, List, [], ◌∷◌, length, map, Some, None, slice_get, refl, sym, ◌∙◌, ap, subst, arith}
 use Rattle.std.specs.Prelude.{◌||◌, All, nat_eq, not, replicate}
 use Rattle.std.proofs.lemmas.Bool.{and_parts, cond-false, cond-true, eqb-true}
 use Rattle.lms_sig.specs.declared.params.Params.{Params}
-use Rattle.lms_sig.specs.Keys.{Key, derived_seed, derived_id}
-use Rattle.lms_state.specs.Signers.{Signing, next_signature}
+use Rattle.lms_state.specs.Signers.{next_signature}
 use Rattle.ds_cert.specs.Spelling.{signed_part_of_lane_cert}
 use Rattle.ds_label.specs.declared.category.PubKey.{PubKey}
 use Rattle.ds_label.specs.declared.category.Category.{Category}
 use Rattle.ds_cert.specs.declared.lane.LaneCert.{LaneCert}
-use Rattle.ds_script.specs.declared.usable.Usable.{Usable}
 use Rattle.ds_model.specs.Desk.{Desk}
-use Rattle.ds_model.specs.Scheme.{InletName, SigningKey}
-use Rattle.ds_model.specs.Plan.{BoxPlan, HostPlan, LanePlan, all_keys, host_plan, with_keys}
-use Rattle.ds_model.specs.World.{Host, Mailbox, Process, Worker}
+use Rattle.ds_model.specs.Plan.{all_keys, host_plan}
 use Rattle.ds_map.specs.Table.{IsTable}
-use Rattle.ds_map.specs.Labels.{named, numbered}
 use Rattle.ds_script.specs.Replay.{last_of}
 use Rattle.ds_desk.specs.declared.act.DeskEntry.{DeskEntry}
 use Rattle.ds_desk.specs.Desks.{DeskView, stamp_of}
 use Rattle.ds_desk.specs.Signing.{signing_of}
-use Rattle.ds_inlet.specs.Inlets.{CountedLane}
-use Rattle.ds_exporter.specs.HostStates.{HostBox, HostLane, HostProcess, HostState}
 use Rattle.ds_exporter.specs.PlainHosts.{category_of, host_of, log_of, name_of_inlet, plain_box, plain_inlet, plain_process, plain_queue, plain_worker, plan_of_box, plan_of_lane, site_of}
 use Rattle.ds_exporter.specs.Stamping.{IsBefore, IsBoxBefore, IsInletBefore, IsLaneBefore}
 use Rattle.ds_scheme.specs.TheScheme.{scheme}
@@ -32,25 +25,25 @@ use Rattle.ds_plan.specs.declared.host.Secret.{Secret}
 use Rattle.ds_plan.specs.declared.host.Secret.TheVariants.{Seed, Key as Public}
 use Rattle.ds_plan.specs.declared.process.ProcSpec.{ProcSpec}
 use Rattle.ds_plan.specs.declared.process.BoxSpec.{BoxSpec}
-use Rattle.ds_plan.specs.Keys.{host_key, host_keys, identity_key, identity_of}
+use Rattle.ds_plan.specs.Keys.{host_key, host_keys, identity_of}
 use Rattle.ds_plan.specs.Signed.{signature_by}
 use Rattle.ds_plan.specs.Documents.{IsDocument, is_bare, is_bare_if_silent, is_silent}
 use Rattle.ds_setup.specs.Lists.{each}
-use Rattle.ds_setup.specs.Keys.{lane_key, lane_tree_of, signing_key, signing_or_none}
+use Rattle.ds_setup.specs.Keys.{lane_tree_of, signing_key, signing_or_none}
 use Rattle.ds_setup.specs.Signed.{address_leaves, lane_leaf, signed_lane, unsigned_lane}
 use Rattle.ds_setup.specs.Plans.{box_plan_of, host_setup_of, inlets_of, lane_plan_of, plan_of}
 use Rattle.ds_setup.specs.Starts.{empty_desk, process_of, running_desk, start_desk, start_host, worker_of}
 use Rattle.ds_setup.proofs.Places.{test_at}
 use Rattle.ds_setup.proofs.Setups.{plan_host}
-use Rattle.ds_boot.specs.Signers.{identity_tree, lane_signing, signing_at, tree_or_none}
+use Rattle.ds_boot.specs.Signers.{identity_tree, signing_at, tree_or_none}
 use Rattle.ds_boot.specs.Signing.{lane_by}
-use Rattle.ds_boot.specs.Lanes.{blank_lane, lane_begun, lane_cert, lanes_begun}
+use Rattle.ds_boot.specs.Lanes.{lane_begun, lane_cert, lanes_begun}
 use Rattle.ds_boot.specs.Desks.{IsDeskOf}
 use Rattle.ds_boot.specs.Parts.{box_begun, inlet_begun, process_begun, usable_of}
 use Rattle.ds_boot.specs.Beginnings.{state_begun}
 use Rattle.ds_hosts.specs.Nodes.{silent_host}
 use Rattle.ds_boot.proofs.Inlets.{inlets_silent}
-use Rattle.ds_boot.proofs.Named.{BoxLabel, ProcLabels, box_label, names_back, proc_labels}
+use Rattle.ds_boot.proofs.Named.{box_label, names_back, proc_labels}
 
 -- ---- lists of things that are seen through functions
 

@@ -1,10 +1,9 @@
 -- Signers and lanes that are taken one after the other, and the hosts that begin with them.
-use Rattle.std.proofs.Common.{◌≡◌, ℕ, zero, suc, ◌+◌, ◌<◌, ◌≤◌, List, [], ◌∷◌, ◌++◌, length, length-append, map, get_or, Option, Some, None, slice_get, option_map, refl, sym, ◌∙◌, ap, subst, arith, ◌⊎◌, inl, inr}
+use Rattle.std.proofs.Common.{◌≡◌, ℕ, zero, suc, ◌+◌, List, [], ◌∷◌, ◌++◌, length, map, get_or, Some, slice_get, option_map, sym, ◌∙◌, ap, subst, arith, ◌⊎◌, inl, inr}
 use Rattle.std.specs.declared.alloc.Global.{Global}
 use Rattle.std.specs.Prelude.{Vec}
 use Rattle.std.proofs.lemmas.List.{length-map, map-append}
 use Rattle.std.proofs.lemmas.Option.{none-some, same_Some, slice_get-map, get_or_from_slice_get}
-use Rattle.lms_state.specs.Signers.{Signing}
 use Rattle.ds_exporter.specs.declared.parts.LanePart.{LanePart}
 use Rattle.ds_exporter.specs.HostStates.{HostLane}
 use Rattle.ds_plan.specs.declared.doc.Doc.{Doc}
@@ -14,8 +13,7 @@ use Rattle.ds_setup.proofs.Places.{each_at}
 use Rattle.ds_setup.proofs.Numbers.{in_either}
 use Rattle.ds_hosts.specs.declared.node.Node.{Node}
 use Rattle.ds_hosts.specs.Nodes.{NodeState, node_of}
-use Rattle.ds_boot.specs.Signing.{signer_behind}
-use Rattle.ds_boot.specs.Lanes.{lanes_begun, lanes_of}
+use Rattle.ds_boot.specs.Lanes.{lanes_of}
 use Rattle.ds_boot.specs.Beginnings.{IsNodeBegun}
 
 module _ {X Y : Type 0} (f : ℕ → X → Y) (xs : List X) where

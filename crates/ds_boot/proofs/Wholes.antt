@@ -1,5 +1,5 @@
 -- What a host is made of is the state in which it begins.
-use Rattle.std.proofs.Common.{◌≡◌, ℕ, zero, suc, ◌+◌, ◌*◌, ◌<◌, ◌≤◌, ◌^◌, true, false, List, [], ◌∷◌, ◌++◌, length, length-append, map, Option, Some, None, slice_get, option_map, refl, sym, ◌∙◌, ap, subst, arith}
+use Rattle.std.proofs.Common.{◌≡◌, ℕ, ◌*◌, ◌<◌, ◌≤◌, ◌^◌, true, false, List, [], ◌∷◌, ◌++◌, length, length-append, map, Option, Some, slice_get, option_map, refl, sym, ◌∙◌, ap, subst, arith}
 use Rattle.std.specs.Prelude.{All}
 use Rattle.std.specs.List.{list_all, flat_map}
 use Rattle.std.proofs.lemmas.Bool.{and_parts, leb-true, ltb-true}
@@ -14,8 +14,7 @@ use Rattle.ds_model.specs.Scheme.{InletName}
 use Rattle.ds_desk.specs.Desks.{DeskView}
 use Rattle.ds_inlet.specs.Inlets.{CountedLane}
 use Rattle.ds_inlet.specs.Connections.{Connection}
-use Rattle.ds_exporter.specs.HostStates.{HostBox, HostLane, HostProcess, HostState}
-use Rattle.ds_exporter.specs.Conditions.{IsFit}
+use Rattle.ds_exporter.specs.HostStates.{HostBox, HostLane, HostProcess}
 use Rattle.ds_plan.specs.declared.doc.Doc.{Doc}
 use Rattle.ds_plan.specs.declared.host.HostSpec.{HostSpec}
 use Rattle.ds_plan.specs.declared.host.LaneSpec.{LaneSpec}
@@ -24,7 +23,7 @@ use Rattle.ds_plan.specs.declared.host.Secret.{Secret}
 use Rattle.ds_plan.specs.declared.host.Secret.TheVariants.{Seed, Key}
 use Rattle.ds_plan.specs.Keys.{host_key, host_keys, identity_of}
 use Rattle.ds_plan.specs.Categories.{is_place}
-use Rattle.ds_plan.specs.Documents.{IsDocument, has_at_most, has_host_sizes, has_sizes, is_between, is_silent, events_of, named_hosts, script_hosts}
+use Rattle.ds_plan.specs.Documents.{IsDocument, has_at_most, has_host_sizes, has_sizes, is_silent, events_of, named_hosts, script_hosts}
 use Rattle.ds_setup.specs.Lists.{each, joined}
 use Rattle.ds_setup.specs.Plans.{inlets_of}
 use Rattle.ds_setup.proofs.Places.{test_append, test_at}

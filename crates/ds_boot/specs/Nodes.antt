@@ -29,8 +29,12 @@ pub record IsNodeOf (d : Doc) (place : ℕ) (x : NodeState) : Type 0 where
   pub host : HasPlace place x
   pub stamps : IsEarlier 1 x
 
+-- so is each of them
+abbrev pub AreNodesOf : Doc → List NodeState → Type 0
+AreNodesOf d all = (place : ℕ) (x : NodeState) → slice_get all place ≡ Some x → IsNodeOf d place x
+
 -- all of them are the document's hosts as setup says
 pub record AreHostsOf (d : Doc) (all : List NodeState) : Type 0 where
   pub hosts : map plain_host all ≡ (start_of d).hosts
-  pub nodes : (place : ℕ) (x : NodeState) → slice_get all place ≡ Some x → IsNodeOf d place x
+  pub nodes : AreNodesOf d all
   pub conns : map conns_of all ≡ each (conns_to d) d.hosts

@@ -1,5 +1,5 @@
 -- A running host's processes, mailboxes, inlets and connections before the first event.
-use Rattle.std.specs.Prelude.{◌≡◌, ℕ, ◌<◌, ◌≤◌, ◌==◌, All, length, if◌then◌else◌, List, [], ◌∷◌, ◌++◌, map, flat_map, None, IsTrue}
+use Rattle.std.specs.Prelude.{ℕ, ◌<◌, ◌≤◌, ◌==◌, All, length, if◌then◌else◌, List, [], ◌∷◌, ◌++◌, map, flat_map, None, IsTrue}
 use Rattle.ds_label.specs.declared.category.PubKey.{PubKey}
 use Rattle.ds_label.specs.declared.category.Category.{Category}
 use Rattle.ds_script.specs.declared.actor.Actor.{Actor}

@@ -1,13 +1,11 @@
 -- Keys that sign, with the leaves at which they sign next.
-use Rattle.std.specs.Prelude.{ℕ, List, [], Option, Some, None}
+use Rattle.std.specs.Prelude.{ℕ, [], Option, Some, None}
 use Rattle.lms_sig.specs.Keys.{Key}
-use Rattle.lms_sig.specs.declared.params.Params.{Params}
 use Rattle.lms_sig.specs.declared.params.LmsType.TheVariants.{H5}
 use Rattle.lms_sig.specs.declared.params.OtsType.TheVariants.{W4}
 use Rattle.lms_state.specs.Signers.{Signing}
 use Rattle.ds_plan.specs.declared.host.HostSpec.{HostSpec}
-use Rattle.ds_plan.specs.declared.host.Secret.{Secret}
-use Rattle.ds_plan.specs.Keys.{identity_key, identity_of}
+use Rattle.ds_plan.specs.Keys.{identity_key}
 use Rattle.ds_setup.specs.Keys.{lane_tree_of}
 
 -- no key

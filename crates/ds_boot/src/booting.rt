@@ -6,12 +6,12 @@ ghost use Rattle.ds_plan.specs.Keys.{host_keys, identity_key};
 ghost use Rattle.ds_plan.specs.Documents.{IsDocument};
 ghost use Rattle.ds_setup.specs.Lists.{each};
 ghost use Rattle.ds_setup.specs.Starts.{start_of};
-ghost use Rattle.ds_hosts.specs.Nodes.{NodeState, conns_of, node_of, plain_host};
+ghost use Rattle.ds_hosts.specs.Nodes.{conns_of, node_of, plain_host};
 ghost use Rattle.ds_boot.specs.Signing.{signer_behind};
 ghost use Rattle.ds_boot.specs.Lanes.{lanes_begun, lanes_of};
 ghost use Rattle.ds_boot.specs.Parts.{conns_to};
 ghost use Rattle.ds_boot.specs.Beginnings.{AreBegun, IsShared};
-ghost use Rattle.ds_boot.specs.Nodes.{IsNodeOf};
+ghost use Rattle.ds_boot.specs.Nodes.{AreNodesOf};
 
 use crate::begun::begin_hosts;
 use crate::certs::sign_certs;
@@ -65,15 +65,7 @@ fn begin_nodes(
     for (place, host) in hosts.iter().enumerate() {
         let signer = take_signer(signers, place);
         let own = take_lanes(alloc, lanes, place);
-        nodes.push(begin_node(
-            alloc,
-            doc,
-            shared,
-            place as u32,
-            host,
-            signer,
-            own,
-        )?)?;
+        nodes.push(begin_node(alloc, doc, shared, place as u32, host, signer, own)?)?;
     }
     Ok(nodes)
 }
@@ -113,7 +105,7 @@ pub fn boot_keyed(
     requires document { IsDocument doc.now }
     requires trees { trees.items ≡ map identity_key doc.now.hosts }
     ensures hosts { IfOk result (λ nodes. map plain_host (map node_of nodes.items) ≡ (start_of doc.now).hosts) }
-    ensures nodes { IfOk result (λ nodes. (place : ℕ) (x : NodeState) → slice_get (map node_of nodes.items) place ≡ Some x → IsNodeOf doc.now place x) }
+    ensures nodes { IfOk result (λ nodes. AreNodesOf doc.now (map node_of nodes.items)) }
     ensures conns { IfOk result (λ nodes. map conns_of (map node_of nodes.items) ≡ each (conns_to doc.now) doc.now.hosts) }
 {
     let mut trees = trees;
@@ -126,7 +118,7 @@ pub fn boot_keyed(
 pub fn boot(alloc: Global, doc: &Doc) -> Result<NodeList, AllocError>
     requires { IsDocument doc.now }
     ensures hosts { IfOk result (λ nodes. map plain_host (map node_of nodes.items) ≡ (start_of doc.now).hosts) }
-    ensures nodes { IfOk result (λ nodes. (place : ℕ) (x : NodeState) → slice_get (map node_of nodes.items) place ≡ Some x → IsNodeOf doc.now place x) }
+    ensures nodes { IfOk result (λ nodes. AreNodesOf doc.now (map node_of nodes.items)) }
     ensures conns { IfOk result (λ nodes. map conns_of (map node_of nodes.items) ≡ each (conns_to doc.now) doc.now.hosts) }
 {
     let trees = identity_trees(alloc, doc.hosts.as_slice())?;

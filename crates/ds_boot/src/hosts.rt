@@ -89,9 +89,7 @@ fn begin_exporter(
     let boxes = begin_boxes(alloc, &desk.table, host.boxes.as_slice())?;
     let inlets = begin_inlets(alloc, names)?;
     let keys = copy_keys(alloc, shared.keys.as_slice())?;
-    Ok(Exporter::new(
-        place, keys, desk, procs, boxes, lanes, inlets, conns,
-    ))
+    Ok(Exporter::new(place, keys, desk, procs, boxes, lanes, inlets, conns))
 }
 
 /// The connections to a host, and its inlets' names. `AllocError` where memory runs out.

@@ -39,10 +39,7 @@ fn identity_tree(alloc: Global, host: &HostSpec) -> Result<Option<TreeKey>, Allo
 }
 
 /// The identity key of each host.
-pub fn identity_trees(
-    alloc: Global,
-    hosts: &[HostSpec],
-) -> Result<Vec<Option<TreeKey>>, AllocError>
+pub fn identity_trees(alloc: Global, hosts: &[HostSpec]) -> Result<Vec<Option<TreeKey>>, AllocError>
     ensures { IfOk result (λ trees. trees.items ≡ map identity_key hosts.now) }
 {
     let mut trees = Vec::new(alloc);
@@ -73,11 +70,7 @@ pub fn fresh_signer_of(tree: Option<TreeKey>) -> Option<Signer>
 }
 
 /// The key of a running host's lane with that number, before its first frame.
-pub fn lane_signer(
-    alloc: Global,
-    host: &HostSpec,
-    number: u32,
-) -> Result<Signer, AllocError>
+pub fn lane_signer(alloc: Global, host: &HostSpec, number: u32) -> Result<Signer, AllocError>
     requires { is_silent host.now.secret ≡ false }
     ensures signer { IfOk result (λ s. s ≡ lane_signing host.now number) }
 {

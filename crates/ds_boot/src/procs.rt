@@ -43,11 +43,7 @@ fn usable_rows(alloc: Global, table: &MapTable) -> Result<UsableList, AllocError
 }
 
 /// A process at its script's first operation. `AllocError` where memory runs out.
-fn begin_process(
-    alloc: Global,
-    table: &MapTable,
-    spec: &ProcSpec,
-) -> Result<ProcPart, AllocError>
+fn begin_process(alloc: Global, table: &MapTable, spec: &ProcSpec) -> Result<ProcPart, AllocError>
     requires { IsProcKnown table.now.here table.now.rows spec.now }
     ensures { IfOk result (λ p. process_of p ≡ process_begun table.now.here table.now.rows spec.now) }
 {

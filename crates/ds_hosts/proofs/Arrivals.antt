@@ -1,6 +1,6 @@
 -- Bytes that arrive at one connection of a host.
 use Rattle.std.proofs.Common.{◌≡◌, ℕ, ◌+◌, ◌<◌, List, [], ◌++◌, Option, Some, None, length, map, get_or, slice_get, option_map, refl, sym, ap, ◌∙◌, subst, arith}
-use Rattle.std.specs.Prelude.{◌≢◌, ◌↔◌, Result, Ok, Err, IfOk, OnOk, OnErr, min}
+use Rattle.std.specs.Prelude.{◌≢◌, Result, Ok, Err, IfOk, OnOk, OnErr, min}
 use Rattle.std.specs.declared.alloc.AllocError.{AllocError}
 use Rattle.std.proofs.lemmas.List.{length-append}
 use Rattle.std.proofs.lemmas.Option.{slice_get-map, get_or_from_slice_get}
@@ -11,7 +11,6 @@ use Rattle.ds_model.specs.ConnectionStep.{arrive}
 use Rattle.ds_model.proofs.Places.{at_here, at_other}
 use Rattle.ds_inlet.specs.Connections.{Connection, arrived_more}
 use Rattle.ds_inlet.specs.PlainConnections.{plain_conn}
-use Rattle.ds_inlet.proofs.PlainCalls.{plain_arrival}
 use Rattle.ds_exporter.specs.declared.moved.Moved.{Moved}
 use Rattle.ds_exporter.specs.declared.moved.Moved.TheVariants.{Changed, Still}
 use Rattle.ds_exporter.specs.Moving.{Moves}
@@ -138,7 +137,8 @@ module _ (x y : NodeState) (conn : ℕ) (piece : List ℕ) (r : Result Moved All
       go : (r : Result Moved AllocError) → OnOk r (y ≡ after conn piece x) → (r ≡ Ok Still → y ≡ x) → IfOk r (λ moved. moved ≡ Changed → (conn < length (conns_of x)) × (0 < length piece))
           → IfOk r (λ moved. Moves moved (conn_in link conn x) (conn_in link conn y) (arrive stream (length piece) (conn_in link conn x)))
       go (Ok Still) ok still moved = (ap (conn_in link conn) ok ∙ conn_after x conn piece link stream later whole within, (λ s. ap (conn_in link conn) (still refl), λ same. refl))
-      go (Ok Changed) ok still moved =
-          (ap (conn_in link conn) ok ∙ conn_after x conn piece link stream later whole within,
-          (λ s. absurd cc, λ same. absurd (conn_differs x conn piece link within (moved refl).1 (ap (conn_in link conn) (sym ok) ∙ same))))
+      go (Ok Changed) ok still moved = (
+        ap (conn_in link conn) ok ∙ conn_after x conn piece link stream later whole within,
+        (λ s. absurd cc, λ same. absurd (conn_differs x conn piece link within (moved refl).1 (ap (conn_in link conn) (sym ok) ∙ same))),
+      )
       go (Err e) ok still moved = tt

@@ -1,11 +1,9 @@
 -- What an event of a host leaves of its connections.
 use Rattle.std.proofs.Common.{◌≡◌, ℕ, List, [], Option, Some, None, length, map, get_or, slice_get, option_map, refl, sym, ap, ◌∙◌, subst}
-use Rattle.std.specs.Prelude.{Result, Ok, Err, IfOk, OnErr, unwrap_or, false}
+use Rattle.std.specs.Prelude.{Result, Ok, Err, IfOk, OnErr, unwrap_or}
 use Rattle.std.specs.declared.alloc.AllocError.{AllocError}
 use Rattle.std.proofs.lemmas.Option.{slice_get-map, unwrap_or-slice_get}
 use Rattle.std.proofs.lemmas.List.{length-map}
-use Rattle.ds_label.specs.declared.category.PubKey.{PubKey}
-use Rattle.ds_label.specs.declared.category.Category.{Category}
 use Rattle.ds_model.specs.Scheme.{Scheme}
 use Rattle.ds_model.specs.Plan.{HostPlan, lane_plan}
 use Rattle.ds_model.specs.Desk.{Desk}
@@ -19,7 +17,7 @@ use Rattle.ds_exporter.specs.declared.moved.Moved.{Moved}
 use Rattle.ds_exporter.specs.HostStates.{HostState}
 use Rattle.ds_exporter.specs.Moving.{Moves}
 use Rattle.ds_exporter.specs.PlainHosts.{arrived_of, conn_at, conn_of, ends_of, host_of, no_conn, site_of}
-use Rattle.ds_hosts.specs.Nodes.{NodeState, Running, Silent, SameConns}
+use Rattle.ds_hosts.specs.Nodes.{NodeState, Running, SameConns}
 
 pub get_alike : {X : Type 0} (xs ys : List X) (i : ℕ) (d : X) → slice_get xs i ≡ slice_get ys i → get_or xs i d ≡ get_or ys i d
 get_alike xs ys i d e = sym (unwrap_or-slice_get xs i d) ∙ (ap (λ o. unwrap_or o d) e ∙ unwrap_or-slice_get ys i d)

@@ -1,21 +1,17 @@
 -- Where there is no connection nothing is accepted or delivered, and no byte arrives.
-use Rattle.std.proofs.Common.{◌≡◌, ℕ, ◌≤◌, List, [], ◌∷◌, Option, Some, None, length, map, get_or, slice_get, refl, sym, ap, ◌∙◌, subst, arith}
+use Rattle.std.proofs.Common.{◌≡◌, ℕ, ◌≤◌, List, [], ◌∷◌, length, map, get_or, refl, sym, ap, ◌∙◌, subst, arith}
 use Rattle.std.specs.Prelude.{◌==◌, Bool, true}
 use Rattle.std.proofs.lemmas.Bool.Decides.{nat_tests}
 use Rattle.std.proofs.lemmas.List.{append-nil, length-map}
 use Rattle.std.proofs.lemmas.Option.{none-some, slice_get_past}
-use Rattle.ds_label.specs.declared.category.PubKey.{PubKey}
 use Rattle.ds_frame.specs.Fields.{number_from}
 use Rattle.ds_frame.specs.Outer.{read_outer_hello}
 use Rattle.ds_frame.specs.Checks.{read_hello, read_item}
 use Rattle.ds_frame.specs.Streams.{read_on}
 use Rattle.ds_inlet.specs.Hosts.{host_reading}
 use Rattle.ds_model.specs.Lists.{at}
-use Rattle.ds_model.specs.Scheme.{InletName}
-use Rattle.ds_model.specs.Plan.{HostPlan}
-use Rattle.ds_model.specs.World.{Conn, Host}
-use Rattle.ds_model.specs.ConnectionStep.{ConnAsk, ConnWaits, accept, deliver}
-use Rattle.ds_model.specs.Step.{HostAndConn, perform_conn}
+use Rattle.ds_model.specs.ConnectionStep.{ConnWaits, accept, deliver}
+use Rattle.ds_model.specs.Step.{perform_conn}
 use Rattle.ds_model.proofs.Places.{at_still}
 use Rattle.ds_setup.proofs.Places.{past}
 use Rattle.ds_inlet.specs.Connections.{Connection, arrived_more}

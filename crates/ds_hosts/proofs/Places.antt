@@ -1,10 +1,8 @@
 -- What a list read at a place has there.
-use Rattle.std.proofs.Common.{◌≡◌, ℕ, ◌<◌, ◌≤◌, List, [], Option, Some, None, length, map, get_or, slice_get, option_map, refl, sym, ap, ◌∙◌, subst, arith}
-use Rattle.std.specs.Prelude.{Bool, true, false, nat_lt, is_some}
+use Rattle.std.proofs.Common.{◌≡◌, ℕ, ◌<◌, ◌≤◌, List, [], Option, Some, None, length, map, get_or, slice_get, option_map, refl, sym, ap, ◌∙◌, arith}
+use Rattle.std.specs.Prelude.{true, false, nat_lt}
 use Rattle.std.proofs.lemmas.Bool.Decides.{nat_tests}
 use Rattle.std.proofs.lemmas.Option.{get_or_from_slice_get, slice_get-map, slice_get_past, slice_get_read}
-use Rattle.ds_model.specs.World.{Worker}
-use Rattle.ds_model.specs.Step.{stream_from}
 use Rattle.ds_inlet.specs.Connections.{ConnectionWithCapacity}
 use Rattle.ds_exporter.specs.declared.parts.LanePart.{LanePart}
 use Rattle.ds_exporter.specs.HostStates.{connection_of, lane_of}

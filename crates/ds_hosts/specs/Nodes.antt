@@ -8,7 +8,7 @@ use Rattle.ds_setup.specs.Starts.{empty_desk}
 use Rattle.ds_inlet.specs.Connections.{Connection}
 use Rattle.ds_inlet.specs.PlainConnections.{plain_conn}
 use Rattle.ds_exporter.specs.HostStates.{HostState, connection_of}
-use Rattle.ds_exporter.specs.PlainHosts.{arrived_at, arrived_of, conn_at, host_of, no_conn, site_of}
+use Rattle.ds_exporter.specs.PlainHosts.{arrived_of, conn_at, host_of, no_conn, site_of}
 use Rattle.ds_exporter.specs.Stamping.{IsBefore}
 use Rattle.ds_hosts.specs.declared.node.Node.{Node}
 use Rattle.ds_hosts.specs.declared.node.Node.TheVariants as nodes

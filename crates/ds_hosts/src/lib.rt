@@ -8,6 +8,7 @@ mod delivering;
 mod framing;
 mod node;
 mod reading;
+mod stepping;
 mod ticking;
 
 pub use node::{Node, NodeList};

@@ -1,12 +1,11 @@
 -- A connection that asks something of its host.
-use Rattle.std.proofs.Common.{◌≡◌, ℕ, ◌+◌, ◌<◌, List, [], Option, Some, None, length, slice_get, refl, sym, ap, ◌∙◌, subst}
+use Rattle.std.proofs.Common.{◌≡◌, ℕ, ◌+◌, List, Option, Some, None, slice_get, refl, sym, ap, ◌∙◌, subst}
 use Rattle.std.specs.Prelude.{Result, Ok, Err, IfOk}
 use Rattle.std.specs.declared.alloc.AllocError.{AllocError}
-use Rattle.ds_model.specs.Plan.{HostPlan, Source, conn_plan, host_plan, receiving_host}
+use Rattle.ds_model.specs.Plan.{HostPlan, conn_plan, host_plan, receiving_host}
 use Rattle.ds_model.specs.World.{Conn, Host, World}
 use Rattle.ds_model.specs.ConnectionStep.{ConnAsk}
 use Rattle.ds_model.specs.Step.{Event, HostAndConn, arrived, perform_conn, step, step_conn, with_ends}
-use Rattle.ds_model.specs.Lists.{at}
 use Rattle.ds_model.proofs.Places.{at_still, some_is}
 use Rattle.ds_delivery.proofs.Arrivals.{HostGrows, conn_grows}
 use Rattle.ds_setup.specs.Plans.{plan_of}
@@ -17,7 +16,7 @@ use Rattle.ds_exporter.specs.Moving.{Moves}
 use Rattle.ds_exporter.proofs.Places.{there_is}
 use Rattle.ds_hosts.specs.Nodes.{NodeState, arrived_in, conn_in, ends_in, plain_host}
 use Rattle.ds_world.specs.declared.route.Route.{Route}
-use Rattle.ds_world.specs.Worlds.{WorldState, IsWorld, arrived_by, conn_by, link_at, routes_of, world_of}
+use Rattle.ds_world.specs.Worlds.{WorldState, IsWorld, conn_by, link_at, routes_of, world_of}
 use Rattle.ds_world.specs.Afters.{IsAfter, IsAnswered, IsAnsweredAt, counted}
 use Rattle.ds_world.proofs.Changes.{conn_none, conn_there, fronts_kept, host_same, host_there, with_node, world_kept}
 use Rattle.ds_world.proofs.OneHost.{nothing_after}
@@ -58,11 +57,11 @@ module _ (asks : HostPlan → Conn → List ℕ → ConnAsk) (w : WorldState) (k
   event_is =
       let p = planned_host w k r x route there is in
       (λ i. step_conn scheme (plan_of w.doc) (world_of w) (p i) k
-          (λ (conn : Conn). asks (host_plan (plan_of w.doc) (p i)) conn (arrived (world_of w) (conn_plan (plan_of w.doc) k).source conn))
-          (slice_get (world_of w).hosts (p i)) (slice_get (world_of w).conns k))
+      (λ (conn : Conn). asks (host_plan (plan_of w.doc) (p i)) conn (arrived (world_of w) (conn_plan (plan_of w.doc) k).source conn))
+      (slice_get (world_of w).hosts (p i)) (slice_get (world_of w).conns k))
       ∙ ((λ i. step_conn scheme (plan_of w.doc) (world_of w) r.host k
-          (λ (conn : Conn). asks here conn (arrived (world_of w) (conn_plan (plan_of w.doc) k).source conn))
-          (host_there w r.host x there i) (conn_there w k r route i))
+      (λ (conn : Conn). asks here conn (arrived (world_of w) (conn_plan (plan_of w.doc) k).source conn))
+      (host_there w r.host x there i) (conn_there w k r route i))
       ∙ ((λ i. with_ends (world_of w) r.host k (perform_conn scheme here (plain_host x) (conn_by w k r) (asks here (conn_by w k r) ((bytes_are w k r x route there is ∙ arrived_is w k r x route there is) i))))
       ∙ (λ i. with_ends (world_of w) r.host k (perform_conn scheme here (plain_host x) (conn_is w k r x route there is i) (asks here (conn_is w k r x route there is i) (arrived_in r.place x))))))
 
@@ -74,13 +73,15 @@ module _ (asks : HostPlan → Conn → List ℕ → ConnAsk) (w : WorldState) (k
 
   moves_world : Moves moved (world_of w) (world_of after) (asked asks k w)
   moves_world = (
-      world_becomes w k r x route there is y answered.others ∙ (ap (with_ends (world_of w) r.host k) moves_ends.0 ∙ sym event_is),
-      (λ still. ap (λ (ns : List NodeState). world_of (record w { nodes = ns }))
+    world_becomes w k r x route there is y answered.others ∙ (ap (with_ends (world_of w) r.host k) moves_ends.0 ∙ sym event_is),
+    (
+      λ still. ap (λ (ns : List NodeState). world_of (record w { nodes = ns }))
           (at_still r.host (λ _. y) w.nodes (λ z h. answered.still still ∙ sym (same_node z h))),
       λ same. moves_ends.1.1 (λ i. record {
         host = host_same w r.host x y there (ap (λ (v : World). v.hosts) same) i;
         conn = conn_same w k r x route there is y answered.others (ap (λ (v : World). v.conns) same) i;
-      })),
+      }),
+    ),
   )
     where
       same_node : (z : NodeState) → slice_get w.nodes r.host ≡ Some z → z ≡ x

@@ -1,29 +1,23 @@
 -- A world of which one host changes.
-use Rattle.std.proofs.Common.{◌≡◌, ℕ, ◌+◌, ◌<◌, List, [], ◌∷◌, ◌++◌, Option, Some, None, length, map, get_or, slice_get, option_map, refl, sym, ap, ◌∙◌, subst, arith}
+use Rattle.std.proofs.Common.{◌≡◌, ℕ, ◌+◌, ◌<◌, List, ◌++◌, Some, None, slice_get, option_map, refl, sym, ap, ◌∙◌, subst}
 use Rattle.std.specs.Prelude.{◌≢◌}
 use Rattle.std.proofs.lemmas.List.{append_assoc}
-use Rattle.std.proofs.lemmas.Option.{none-some, get_or_from_slice_get, slice_get-map, slice_get_within}
+use Rattle.std.proofs.lemmas.Option.{get_or_from_slice_get, slice_get-map}
 use Rattle.ds_model.specs.Lists.{at}
-use Rattle.ds_model.specs.World.{Conn, Host, World}
-use Rattle.ds_model.specs.Step.{on_host, stream_from, worker_at}
+use Rattle.ds_model.specs.World.{Host}
 use Rattle.ds_model.proofs.Places.{at_each, at_here, at_other, some_is}
 use Rattle.ds_delivery.proofs.Lists.{Grows, grows_self}
 use Rattle.ds_delivery.proofs.Arrivals.{HostGrows, at_grows}
 use Rattle.ds_plan.specs.declared.doc.Doc.{Doc}
-use Rattle.ds_setup.specs.Lists.{each}
 use Rattle.ds_setup.proofs.Places.{each_at}
-use Rattle.ds_exporter.specs.declared.moved.Moved.{Moved}
-use Rattle.ds_exporter.specs.declared.moved.Moved.TheVariants.{Still}
-use Rattle.ds_exporter.specs.HostStates.{HostState}
-use Rattle.ds_exporter.specs.Moving.{Moves}
 use Rattle.ds_exporter.proofs.Places.{length_at, map_kept_at, map_over_at}
 use Rattle.ds_exporter.proofs.Stamps.{below_more}
-use Rattle.ds_hosts.specs.Nodes.{NodeState, Running, Silent, IsUntil, SameConns, arrived_in, conn_in, plain_host}
+use Rattle.ds_hosts.specs.Nodes.{NodeState, Running, Silent, IsUntil, arrived_in, plain_host}
 use Rattle.ds_hosts.proofs.Keeps.{get_alike}
 use Rattle.ds_world.specs.declared.route.Feed.{Feed}
 use Rattle.ds_world.specs.declared.route.Feed.TheVariants as feeds
 use Rattle.ds_world.specs.declared.route.Route.{Route}
-use Rattle.ds_world.specs.Worlds.{WorldState, IsFront, IsNodeAt, IsRouteAt, IsWorld, arrived_by, conn_by, no_node, node_at, routes_of, stream_by, world_of}
+use Rattle.ds_world.specs.Worlds.{WorldState, IsFront, IsNodeAt, IsWorld, arrived_by, conn_by, no_node, node_at, routes_of, stream_by, world_of}
 use Rattle.ds_world.specs.Afters.{counted}
 
 -- LISTS THAT STAND AT THE FRONT

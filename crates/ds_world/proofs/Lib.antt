@@ -3,3 +3,10 @@ pub mod Changes
 pub mod OneHost
 pub mod OneConn
 pub mod Answered
+pub mod Rounds
+pub mod Trying
+pub mod Loops
+pub mod Tried
+pub mod Fed
+pub mod Injected
+pub mod Counts

@@ -1,32 +1,28 @@
 -- A change of one connection of one host.
-use Rattle.std.proofs.Common.{◌≡◌, ℕ, ◌+◌, ◌<◌, List, [], ◌∷◌, ◌++◌, Option, Some, None, length, map, take, get_or, slice_get, option_map, refl, sym, ap, ◌∙◌, subst, arith}
+use Rattle.std.proofs.Common.{◌≡◌, ℕ, ◌<◌, List, [], Option, Some, None, length, map, take, get_or, slice_get, option_map, refl, sym, ap, ◌∙◌, subst}
 use Rattle.std.specs.Prelude.{◌≢◌}
 use native.Mathlib.Decide.{ℕ_discrete}
 use Rattle.std.proofs.Math.Seq.{take-append_seam}
-use Rattle.std.proofs.lemmas.Option.{none-some, get_or_from_slice_get, slice_get-map}
+use Rattle.std.proofs.lemmas.Option.{get_or_from_slice_get, slice_get-map}
 use Rattle.ds_model.specs.Lists.{at}
-use Rattle.ds_model.specs.Plan.{ConnPlan, HostPlan, Plan, Source, Link, OfLane, conn_plan, host_plan, receiving_host}
-use Rattle.ds_model.specs.World.{Conn, Host, World}
-use Rattle.ds_model.specs.ConnectionStep.{ConnAsk}
-use Rattle.ds_model.specs.Step.{HostAndConn, arrived, perform_conn, step_conn, stream_of, with_ends}
+use Rattle.ds_model.specs.Plan.{ConnPlan, HostPlan, Plan, Source, Link, OfLane, conn_plan, host_plan}
+use Rattle.ds_model.specs.World.{Conn}
+use Rattle.ds_model.specs.Step.{arrived, stream_of, with_ends}
 use Rattle.ds_model.proofs.Places.{at_each, at_here, at_other, some_is}
 use Rattle.ds_setup.specs.Plans.{plan_of}
-use Rattle.ds_scheme.specs.TheScheme.{scheme}
 use Rattle.ds_inlet.specs.Connections.{Connection}
 use Rattle.ds_inlet.specs.PlainConnections.{plain_conn}
 use Rattle.ds_exporter.specs.PlainHosts.{arrived_of, conn_of, no_conn}
 use Rattle.ds_exporter.proofs.Places.{there_is}
 use Rattle.ds_hosts.specs.Nodes.{NodeState, Running, Silent, arrived_in, conn_in, conns_of, ends_in, plain_host}
-use Rattle.ds_world.specs.declared.route.Feed.{Feed}
-use Rattle.ds_world.specs.declared.route.Feed.TheVariants as feeds
 use Rattle.ds_world.specs.declared.route.Route.{Route}
 use Rattle.ds_world.specs.Worlds.{WorldState, IsWorld, arrived_by, conn_by, conns_in, feed_of, link_at, node_at, routes_of, stream_by, world_of}
 use Rattle.ds_world.proofs.Routes.{conn_plan_is, host_is, place_within, route_conn, route_there, same_lists, source_is, two_places}
-use Rattle.ds_world.proofs.Changes.{conn_none, conn_there, host_there, hosts_become, node_here, node_other, node_was, with_node}
+use Rattle.ds_world.proofs.Changes.{conn_none, conn_there, hosts_become, node_here, node_other, node_was, with_node}
 
 -- WHAT STANDS AT A PLACE
 
-stands : {Y : Type 0} (f : Connection → Y) (ks : List Connection) (i : ℕ) (k : Connection) (d : Y) → slice_get ks i ≡ Some k → get_or (map f ks) i d ≡ f k
+pub stands : {Y : Type 0} (f : Connection → Y) (ks : List Connection) (i : ℕ) (k : Connection) (d : Y) → slice_get ks i ≡ Some k → get_or (map f ks) i d ≡ f k
 stands f ks i k d h = get_or_from_slice_get (map f ks) i (f k) d (slice_get-map f ks i ∙ ap (option_map f) h)
 
 -- its link is the one that it is given, and its count that of the bytes that arrived

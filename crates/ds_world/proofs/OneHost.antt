@@ -1,10 +1,9 @@
 -- An event of one host alone.
-use Rattle.std.proofs.Common.{◌≡◌, ℕ, ◌+◌, ◌<◌, ◌≤◌, List, Some, None, length, slice_get, option_map, refl, sym, ap, ◌∙◌, subst, arith}
+use Rattle.std.proofs.Common.{◌≡◌, ℕ, ◌+◌, ◌<◌, ◌≤◌, List, Some, length, slice_get, refl, sym, ap, ◌∙◌, subst}
 use Rattle.std.specs.Prelude.{Result, Ok, Err, IfOk}
 use Rattle.std.specs.declared.alloc.AllocError.{AllocError}
 use Rattle.std.proofs.lemmas.List.{length-map}
 use Rattle.std.proofs.lemmas.Option.{none-some, slice_get_past}
-use Rattle.ds_model.specs.Lists.{at}
 use Rattle.ds_model.specs.Plan.{HostPlan, host_plan}
 use Rattle.ds_model.specs.World.{Conn, Host, World}
 use Rattle.ds_model.specs.Step.{Event, on_host, step}
@@ -14,12 +13,12 @@ use Rattle.ds_setup.specs.Lists.{each}
 use Rattle.ds_setup.specs.Plans.{plan_of}
 use Rattle.ds_scheme.specs.TheScheme.{scheme}
 use Rattle.ds_exporter.specs.declared.moved.Moved.{Moved}
-use Rattle.ds_exporter.specs.declared.moved.Moved.TheVariants.{Changed, Still}
+use Rattle.ds_exporter.specs.declared.moved.Moved.TheVariants.{Still}
 use Rattle.ds_exporter.specs.Moving.{Moves}
-use Rattle.ds_exporter.proofs.Places.{length_at, map_kept_at, there_is}
-use Rattle.ds_hosts.specs.Nodes.{NodeState, IsPlanOf, SameConns, conn_in, plain_host}
+use Rattle.ds_exporter.proofs.Places.{there_is}
+use Rattle.ds_hosts.specs.Nodes.{NodeState, conn_in, plain_host}
 use Rattle.ds_world.specs.declared.route.Route.{Route}
-use Rattle.ds_world.specs.Worlds.{WorldState, IsRouteAt, IsWorld, conn_by, link_at, node_at, routes_of, world_of}
+use Rattle.ds_world.specs.Worlds.{WorldState, IsWorld, link_at, routes_of, world_of}
 use Rattle.ds_world.specs.Afters.{IsAfter, IsStepped, IsSteppedAt, counted}
 use Rattle.ds_world.proofs.Changes.{each_node, fronts_kept, host_same, hosts_become, hosts_same, later_node, with_node, world_kept}
 
@@ -63,10 +62,13 @@ module _ (w : WorldState) (host : ℕ) (x y : NodeState) (stands : slice_get w.n
 
   pub moves_world : Moves moved (world_of w) (world_of after) (on_host host (becomes plan) (world_of w))
   moves_world =
-      let hosts = hosts_become w host x y stands (becomes plan) moves_host.0 in
-      (λ i. record { hosts = hosts i; conns = conns_same i },
-      (λ still. λ i. record { hosts = hosts_same w host x y stands (moves_host.1.0 still) i; conns = conns_same i },
-      λ same. moves_host.1.1 (host_same w host x y stands (ap (λ (v : World). v.hosts) same))))
+      let hosts = hosts_become w host x y stands (becomes plan) moves_host.0 in (
+        λ i. record { hosts = hosts i; conns = conns_same i },
+        (
+          λ still. λ i. record { hosts = hosts_same w host x y stands (moves_host.1.0 still) i; conns = conns_same i },
+          λ same. moves_host.1.1 (host_same w host x y stands (ap (λ (v : World). v.hosts) same)),
+        ),
+      )
 
   pub world_after : HostGrows (plain_host x) (plain_host y) → IsWorld (counted w.count after)
   world_after g =

@@ -1,14 +1,13 @@
 -- Where connections lead: two connections to one host have two places, below the number of those that lead there.
-use Rattle.std.proofs.Common.{◌≡◌, ℕ, zero, suc, ◌+◌, ◌<◌, ◌≤◌, List, [], ◌∷◌, Some, None, length, take, get_or, slice_get, option_map, refl, sym, ap, ◌∙◌, subst, arith}
-use Rattle.std.specs.Prelude.{◌≢◌, ◌==◌, if◌then◌else◌, Option}
+use Rattle.std.proofs.Common.{◌≡◌, ℕ, zero, suc, ◌+◌, ◌<◌, ◌≤◌, List, [], ◌∷◌, Some, take, slice_get, refl, sym, ap, ◌∙◌, subst, arith}
+use Rattle.std.specs.Prelude.{◌≢◌, ◌==◌}
 use native.Mathlib.Decide.{dec_lt}
 use Rattle.std.proofs.lemmas.Bool.{cond-true}
 use Rattle.std.proofs.lemmas.Bool.Decides.{nat_tests}
 use Rattle.std.proofs.lemmas.Option.{none-some, get_or_from_slice_get}
 use Rattle.ds_model.specs.Plan.{ConnPlan, Plan, Source, Link, OfLane, conn_plan, no_wire}
 use Rattle.ds_model.proofs.Places.{some_is}
-use Rattle.ds_setup.specs.Lists.{each}
-use Rattle.ds_setup.proofs.Places.{each_at, from_each}
+use Rattle.ds_setup.proofs.Places.{from_each}
 use Rattle.ds_world.specs.declared.route.Feed.TheVariants as feeds
 use Rattle.ds_world.specs.declared.route.Route.{Route}
 use Rattle.ds_world.specs.Worlds.{count_to, feed_of, leads_to, route_at, routes_by}
@@ -96,5 +95,6 @@ is_lane (OfLane h l) host lane e = λ i. OfLane (host_same i) (lane_same i)
   where
     host_same : h ≡ host
     host_same = cc
+
     lane_same : l ≡ lane
     lane_same = cc

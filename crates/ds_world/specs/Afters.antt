@@ -1,14 +1,14 @@
 -- What an event leaves of a world.
-use Rattle.std.specs.Prelude.{◌≡◌, ◌≢◌, ℕ, ◌+◌, List, Some, length, slice_get}
+use Rattle.std.specs.Prelude.{◌≡◌, ◌≢◌, ℕ, ◌+◌, ◌<◌, ◌++◌, List, Some, length, slice_get}
 use Rattle.ds_model.specs.Lists.{at}
 use Rattle.ds_model.specs.Plan.{HostPlan}
 use Rattle.ds_model.specs.World.{Conn, Host}
-use Rattle.ds_model.specs.ConnectionStep.{ConnAsk}
+use Rattle.ds_model.specs.ConnectionStep.{ConnAsk, arrive}
 use Rattle.ds_model.specs.Step.{Event, perform_conn, step}
 use Rattle.ds_setup.specs.Plans.{plan_of}
 use Rattle.ds_scheme.specs.TheScheme.{scheme}
 use Rattle.ds_exporter.specs.declared.moved.Moved.{Moved}
-use Rattle.ds_exporter.specs.declared.moved.Moved.TheVariants.{Still}
+use Rattle.ds_exporter.specs.declared.moved.Moved.TheVariants.{Changed, Still}
 use Rattle.ds_exporter.specs.Moving.{Moves}
 use Rattle.ds_hosts.specs.Nodes.{NodeState, IsPlanOf, IsUntil, SameConns, arrived_in, conn_in, conns_of, ends_in, plain_host}
 use Rattle.ds_world.specs.Worlds.{WorldState, IsWorld, world_of}
@@ -19,6 +19,14 @@ pub record IsAfter (moved : Moved) (event : Event) (before after : WorldState) :
   pub world : IsWorld after
   pub doc : after.doc ≡ before.doc
   pub count : after.count ≡ before.count + 1
+
+-- the same, but the world counts the event only where it changed something
+pub record IsAfterUnlessStill (moved : Moved) (event : Event) (before after : WorldState) : Type 0 where
+  pub moves : Moves moved (world_of before) (world_of after) (step scheme (plan_of before.doc) (world_of before) event)
+  pub world : IsWorld after
+  pub doc : after.doc ≡ before.doc
+  pub still : moved ≡ Still → after ≡ before
+  pub changed : moved ≡ Changed → after.count ≡ before.count + 1
 
 -- with a count of one more
 abbrev pub counted : (count : ℕ) → WorldState → WorldState
@@ -52,3 +60,20 @@ pub record IsAnswered (asks : HostPlan → Conn → List ℕ → ConnAsk) (moved
 abbrev pub IsAnsweredAt : (HostPlan → Conn → List ℕ → ConnAsk) → Moved → (stamp host place : ℕ) → (before after : List NodeState) → Type 0
 IsAnsweredAt asks moved stamp host place before after =
     (x : NodeState) → slice_get before host ≡ Some x → (y : NodeState) × (after ≡ at host (λ _. y) before) × IsAnswered asks moved stamp place x y
+
+-- these bytes come to a connection of the host, as the next ones of its stream
+pub record IsFed (piece : List ℕ) (moved : Moved) (stamp place : ℕ) (before after : NodeState) : Type 0 where
+  pub moves : (link stream later : List ℕ) → stream ≡ (arrived_in place before ++ piece) ++ later → place < length (conns_of before)
+      → Moves moved (conn_in link place before) (conn_in link place after) (arrive stream (length piece) (conn_in link place before))
+  pub bytes : place < length (conns_of before) → arrived_in place after ≡ arrived_in place before ++ piece
+  pub host : plain_host after ≡ plain_host before
+  pub others : (link : List ℕ) (other : ℕ) → other ≢ place → conn_in link other after ≡ conn_in link other before
+  pub arrived : (other : ℕ) → other ≢ place → arrived_in other after ≡ arrived_in other before
+  pub plan : (plan : HostPlan) → IsPlanOf plan before → IsPlanOf plan after
+  pub count : length (conns_of after) ≡ length (conns_of before)
+  pub still : moved ≡ Still → after ≡ before
+  pub stamps : IsUntil stamp after
+
+abbrev pub IsFedAt : (piece : List ℕ) → Moved → (stamp host place : ℕ) → (before after : List NodeState) → Type 0
+IsFedAt piece moved stamp host place before after =
+    (x : NodeState) → slice_get before host ≡ Some x → (y : NodeState) × (after ≡ at host (λ _. y) before) × IsFed piece moved stamp place x y

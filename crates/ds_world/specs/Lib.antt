@@ -1,3 +1,4 @@
 pub mod Worlds
 pub mod Inside
 pub mod Afters
+pub mod Makings

@@ -77,6 +77,10 @@ abbrev pub stream_by : WorldState → (k : ℕ) → Feed → List ℕ
 stream_by w k feeds.Link = link_at k w
 stream_by w k (feeds.Lane host lane) = stream_from (worker_at (slice_get (map plain_host w.nodes) host) lane)
 
+-- with more bytes
+abbrev pub longer : (bytes : List ℕ) → List ℕ → List ℕ
+longer bytes stream = stream ++ bytes
+
 -- WHAT THEY KEEP
 
 -- bytes that stand at the front of others

@@ -1,7 +1,7 @@
 //! Connections that accept and deliver.
 #![tactic(auto)]
 
-ghost use Rattle.std.specs.Prelude.{◌≡◌, ◌+◌, ◌<◌, ◌^◌, ℕ, Some, length, map, slice_get, OnErr, IfOk};
+ghost use Rattle.std.specs.Prelude.{◌≡◌, ◌+◌, ◌<◌, ◌^◌, ℕ, Some, length, map, slice_get, Ok, OnErr, IfOk};
 ghost use Rattle.ds_model.specs.ConnectionStep.{accept, deliver};
 ghost use Rattle.ds_model.specs.Step.{Accept, Deliver};
 ghost use Rattle.ds_scheme.specs.TheScheme.{scheme};
@@ -23,15 +23,11 @@ pub(crate) fn route_of(routes: &RouteList, conn: u32) -> Option<Route>
 }
 
 /// A connection of the host at a place accepts.
-fn accept_at(
-    nodes: &mut NodeList,
-    host: usize,
-    stamp: u64,
-    place: u32,
-) -> Result<Moved, AllocError>
+fn accept_at(nodes: &mut NodeList, host: usize, stamp: u64, place: u32) -> Result<Moved, AllocError>
     requires there { host < length nodes.old.items }
     requires later { (x : NodeState) → slice_get (map node_of nodes.old.items) host ≡ Some x → IsEarlier stamp x }
     ensures ok { IfOk result (λ moved. IsAnsweredAt (λ plan k bytes. accept scheme plan k bytes) moved stamp host place (map node_of nodes.old.items) (map node_of nodes.new.items)) }
+    ensures still { result ≡ Ok Moved.Still → map node_of nodes.new.items ≡ map node_of nodes.old.items }
     ensures err { OnErr result (map node_of nodes.new.items ≡ map node_of nodes.old.items) }
 {
     let moved = nodes[host].accept(stamp, place)?;
@@ -48,6 +44,7 @@ fn deliver_at(
     requires there { host < length nodes.old.items }
     requires later { (x : NodeState) → slice_get (map node_of nodes.old.items) host ≡ Some x → IsEarlier stamp x }
     ensures ok { IfOk result (λ moved. IsAnsweredAt (λ plan k bytes. deliver scheme plan k bytes) moved stamp host place (map node_of nodes.old.items) (map node_of nodes.new.items)) }
+    ensures still { result ≡ Ok Moved.Still → map node_of nodes.new.items ≡ map node_of nodes.old.items }
     ensures err { OnErr result (map node_of nodes.new.items ≡ map node_of nodes.old.items) }
 {
     let moved = nodes[host].deliver(stamp, place)?;
@@ -59,7 +56,8 @@ pub(crate) fn accept(parts: &mut WorldParts, conn: u32) -> Result<Moved, AllocEr
     requires fit { IsFit parts.old }
     requires more { parts.old.count + 1 < 2 ^ 64 }
     ensures ok { IfOk result (λ moved. IsAfter moved (Accept conn) (state_of parts.old) (counted parts.old.count (state_of parts.new))) }
-    ensures routes { IfOk result (λ moved. parts.new.routes ≡ parts.old.routes) }
+    ensures same { (parts.new.routes ≡ parts.old.routes) × (parts.new.count ≡ parts.old.count) }
+    ensures still { result ≡ Ok Moved.Still → state_of parts.new ≡ state_of parts.old }
     ensures err { OnErr result (state_of parts.new ≡ state_of parts.old) }
 {
     let Some(route) = route_of(&parts.routes, conn) else {
@@ -78,7 +76,8 @@ pub(crate) fn deliver(parts: &mut WorldParts, conn: u32) -> Result<Moved, AllocE
     requires fit { IsFit parts.old }
     requires more { parts.old.count + 1 < 2 ^ 64 }
     ensures ok { IfOk result (λ moved. IsAfter moved (Deliver conn) (state_of parts.old) (counted parts.old.count (state_of parts.new))) }
-    ensures routes { IfOk result (λ moved. parts.new.routes ≡ parts.old.routes) }
+    ensures same { (parts.new.routes ≡ parts.old.routes) × (parts.new.count ≡ parts.old.count) }
+    ensures still { result ≡ Ok Moved.Still → state_of parts.new ≡ state_of parts.old }
     ensures err { OnErr result (state_of parts.new ≡ state_of parts.old) }
 {
     let Some(route) = route_of(&parts.routes, conn) else {

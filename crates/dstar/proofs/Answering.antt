@@ -1,22 +1,21 @@
 -- From the causes of a call to its answer by the bytes alone.
-use Rattle.std.proofs.Common.{◌≡◌, ℕ, ◌<◌, ◌≤◌, List, length, Option, Some, None, refl, sym, ap, subst, ◌∙◌, ◌⊎◌, inl, inr, arith, length-append, Result, Ok, Err}
+use Rattle.std.proofs.Common.{◌≡◌, ℕ, ◌<◌, ◌≤◌, List, length, Option, Some, None, refl, sym, ap, subst, ◌∙◌, inl, inr, arith, length-append, Result, Ok, Err}
 use Rattle.ds_base.specs.Counts.{Rose, Told}
 use Rattle.ds_base.proofs.Counting.{told_all}
 use Rattle.dstar.specs.declared.status.Status.{Status}
 use Rattle.dstar.specs.declared.status.Status.TheVariants as ends
-use Rattle.ds_commands.specs.declared.command.Command.{Command}
 use Rattle.ds_commands.specs.declared.command.Command.TheVariants.{Keygen, Sign, Verify, Chain}
 use Rattle.ds_commands.specs.declared.reply.Reply.{Reply}
 use Rattle.ds_commands.specs.declared.reply.Reply.TheVariants.{Prints, Denies, Breaks, Spends}
 use Rattle.ds_commands.specs.Outcome.{Marked, name_in}
 use Rattle.ds_commands.specs.Lines.{secret_alone, secret_and_message}
-use Rattle.ds_commands.specs.Replies.{reply_of, keygen_reply, sign_reply}
+use Rattle.ds_commands.specs.Replies.{keygen_reply, sign_reply}
 use Rattle.lms_sig.specs.declared.params.Params.{Params}
 use Rattle.dstar.specs.declared.call.Call.{Call}
 use Rattle.dstar.specs.declared.call.Call.TheVariants.{Sim, Small}
 use Rattle.dstar.specs.Outside.{input_limit}
 use Rattle.dstar.proofs.Sims.{sim_alike}
-use Rattle.dstar.specs.Causes.{Observed, ReadWhole, Caused, Answers, Answered, Gives, IsDecided, name_of, status_of, text_in}
+use Rattle.dstar.specs.Causes.{Observed, ReadWhole, Caused, Answers, Answered, Gives, IsDecided, name_of, status_of}
 
 -- the bytes that were read to the end are the ones that the input told
 whole_is : (m : Observed) (bytes read : List ℕ) → m.told ≡ Some bytes → ReadWhole m read → read ≡ bytes

@@ -7,7 +7,11 @@ use Rattle.ds_plan.specs.declared.doc.Doc.{Doc}
 use Rattle.ds_doc.specs.Reading.{Document, answer_of}
 use Rattle.dstar.specs.declared.status.Status.{Status}
 use Rattle.dstar.specs.declared.status.Status.TheVariants as ends
-use Rattle.dstar.specs.Sims.{SimGives, IsSomeDocument, IsRefused, IsUnused}
+use Rattle.ds_model.specs.Step.{Event}
+use Rattle.ds_plan.specs.Documents.{IsDocument}
+use Rattle.ds_doc.proofs.Answered.{documented}
+use Rattle.ds_sim.proofs.TwoTexts.{looks_the_same}
+use Rattle.dstar.specs.Sims.{SimGives, LooksTheSame}
 use Rattle.dstar.specs.Causes.{status_of}
 
 abbrev or_this : Data → Option Data → Data
@@ -28,37 +32,34 @@ said_once bytes r s (inl a) (inr b) = absurd (no_value b.0 _ (a.0 b.1.0) b.1.1)
 said_once bytes r s (inr a) (inl b) = absurd (no_value a.0 _ (b.0 a.1.0) a.1.1)
 said_once bytes r s (inr a) (inr b) = a.2 ∙ ap answer_of (one_value a.0 b.0 _ a.1.1 b.1.1) ∙ sym b.2
 
--- bytes that break a rule say no document
-never_both : (bytes : List ℕ) (code place : ℕ) → IsRefused bytes code place → IsSomeDocument bytes → ⊥
-never_both bytes code place refused some =
-    let h : ◌≡◌ {A = Result Doc (ℕ × ℕ)} (Err (code, place)) (Ok some.0) = said_once bytes (Err (code, place)) (Ok some.0) refused some.1 in absurd cc
-
 abbrev status_in : Result Doc (ℕ × ℕ) → Status
 status_in (Ok d) = ends.Ok
 status_in (Err e) = ends.Document e.0 e.1
 
--- two refusals of the same bytes
-refusals_alike : (bytes : List ℕ) (code place code' place' : ℕ) → SimGives bytes (Breaks code place) → SimGives bytes (Breaks code' place')
-    → ends.Document code place ≡ ends.Document code' place'
-refusals_alike bytes code place code' place' (inl g) (inl h) = ap status_in (said_once bytes (Err (code, place)) (Err (code', place')) g h)
-refusals_alike bytes code place code' place' (inl g) (inr h) = absurd (never_both bytes code place g h.document)
-refusals_alike bytes code place code' place' (inr g) (inl h) = absurd (never_both bytes code' place' h g.document)
-refusals_alike bytes code place code' place' (inr g) (inr h) = rw g.by_code (rw g.at (rw h.by_code (rw h.at refl)))
-
 -- a text and a refusal
-never_printed : (bytes text : List ℕ) (code place : ℕ) → SimGives bytes (Prints text) → SimGives bytes (Breaks code place) → ⊥
-never_printed bytes text code place g (inl h) = never_both bytes code place h g.0
-never_printed bytes text code place g (inr h) = h.unread g.1.document g.1.reads
+never_both : (bytes text : List ℕ) (code place : ℕ) → SimGives bytes (Prints text) → SimGives bytes (Breaks code place) → ⊥
+never_both bytes text code place g h =
+    let clash : ◌≡◌ {A = Result Doc (ℕ × ℕ)} (Err (code, place)) (Ok g.document) = said_once bytes (Err (code, place)) (Ok g.document) h g.reads in absurd cc
 
 -- two answers to the same bytes end alike
 pub sim_alike : (bytes : List ℕ) (r s : Reply) → SimGives bytes r → SimGives bytes s → status_of r ≡ status_of s
 sim_alike bytes (Prints text) (Prints other) g h = refl
 sim_alike bytes (Prints text) (Denies other) g h = absurd h
-sim_alike bytes (Prints text) (Breaks code place) g h = absurd (never_printed bytes text code place g h)
+sim_alike bytes (Prints text) (Breaks code place) g h = absurd (never_both bytes text code place g h)
 sim_alike bytes (Prints text) Spends g h = absurd h
 sim_alike bytes (Denies text) s g h = absurd g
-sim_alike bytes (Breaks code place) (Prints text) g h = absurd (never_printed bytes text code place h g)
+sim_alike bytes (Breaks code place) (Prints text) g h = absurd (never_both bytes text code place h g)
 sim_alike bytes (Breaks code place) (Denies text) g h = absurd h
-sim_alike bytes (Breaks code place) (Breaks code' place') g h = refusals_alike bytes code place code' place' g h
+sim_alike bytes (Breaks code place) (Breaks code' place') g h = ap status_in (said_once bytes (Err (code, place)) (Err (code', place')) g h)
 sim_alike bytes (Breaks code place) Spends g h = absurd h
 sim_alike bytes Spends s g h = absurd g
+
+-- what bytes say is a document
+is_document_of : (bytes : List ℕ) (d : Doc) → Document bytes (Ok d) → IsDocument d
+is_document_of bytes d (inl a) = let clash : ◌≡◌ {A = Result Doc (ℕ × ℕ)} (Ok d) (Err (1, 0)) = a.1 in absurd cc
+is_document_of bytes d (inr a) = documented {B = ℕ} a.0 (Ok (d, 0)) (sym a.2)
+
+-- so the law over two runs holds of it
+pub outside_is : (bytes : List ℕ) (d : Doc) (one : List Event) → Document bytes (Ok d) → LooksTheSame d one
+outside_is bytes d one reads other e two also scheduled c trusted both =
+    looks_the_same c trusted d one e two (is_document_of bytes d reads) (is_document_of other e also) both

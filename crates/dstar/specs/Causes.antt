@@ -1,8 +1,7 @@
 -- What each way to end says of a call: one case a status.
 use Rattle.std.specs.Prelude.{◌≡◌, ◌⊎◌, ℕ, ◌<◌, ◌≤◌, List, length, Bool, false, Option, Some, None}
 use Rattle.ds_base.specs.Counts.{Rose, Told, NoneLeft, Appended}
-use Rattle.ds_commands.specs.declared.command.Command.{Command}
-use Rattle.ds_commands.specs.declared.command.Command.TheVariants.{Keygen, Sign, Verify, Chain}
+use Rattle.ds_commands.specs.declared.command.Command.TheVariants.{Sign}
 use Rattle.ds_commands.specs.declared.reply.Reply.{Reply}
 use Rattle.ds_commands.specs.declared.reply.Reply.TheVariants.{Prints, Denies, Breaks, Spends}
 use Rattle.ds_commands.specs.declared.reply.CommandFault.{CommandFault}

@@ -1,15 +1,4 @@
-pub mod Reading
-pub mod Document
-pub mod Views
 pub mod Outside
-pub mod Things
-pub mod Fields
-pub mod World
-pub mod Handing
-pub mod Asks
-pub mod Events
-pub mod Text
-pub mod Runs
 pub mod Codes
 pub mod Words
 pub mod Sims

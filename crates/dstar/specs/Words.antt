@@ -1,11 +1,14 @@
 -- The forms of the program's words.
-use Rattle.std.specs.Prelude.{ℕ, List, [], ◌∷◌, map, codes, Bool, false, String, string_bytes, if◌then◌else◌, Option, Some, None}
+use Rattle.std.specs.Prelude.{ℕ, List, [], ◌∷◌, map, codes, Bool, false, String, string_bytes, nat_eq, if◌then◌else◌, Option, Some, None}
 use Rattle.std.specs.declared.alloc.Global.{Global}
+use Rattle.std.specs.Cmp.Lexicographic.{pointwise}
 use Rattle.ds_commands.specs.Words.{command_in}
 use Rattle.ds_commands.specs.declared.command.Command.{Command}
 use Rattle.dstar.specs.declared.call.Call.{Call}
 use Rattle.dstar.specs.declared.call.Call.TheVariants.{Sim, Small}
-use Rattle.dstar.specs.Reading.{same_text}
+
+abbrev pub same_text : List ℕ → List ℕ → Bool
+same_text first second = pointwise nat_eq first second
 
 -- the words as texts
 abbrev pub texts : List (String Global) → List (List ℕ)

@@ -2,19 +2,14 @@
 #![tactic(auto)]
 
 mod call;
-mod document;
 mod input;
-mod mailbox;
 mod output;
 mod respond;
-mod run;
-mod runner;
+mod simulate;
 mod status;
 #[cfg(test)]
 mod tests;
-mod text;
 mod top;
-mod world;
 
 use crate::status::Status;
 use crate::top::dstar_run;

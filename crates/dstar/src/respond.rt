@@ -3,14 +3,13 @@
 ghost use Rattle.std.specs.Prelude.{◌≡◌, ◌≤◌, ◌^◌, false, length, IfOk, IfErr};
 ghost use Rattle.ds_commands.specs.declared.reply.CommandFault.TheVariants.{NoMemory};
 ghost use Rattle.dstar.specs.Causes.{Answered, Caused, Unanswered, asks_keeper};
-ghost use Rattle.dstar.specs.Sims.{IsSomeDocument, SimGives};
+ghost use Rattle.dstar.specs.Sims.{SimGives};
 ghost use Rattle.dstar.specs.Outside.{input_limit};
 
 use crate::call::Call;
-use crate::document::refusal::Refusal;
 use crate::input::{InputFault, read_all};
 use crate::output::write_all;
-use crate::run::simulate;
+use crate::simulate::simulate;
 use crate::status::Status;
 use ds_base::{Keeper, Sink, Source};
 use ds_commands::{CommandFault, Reply, answer};
@@ -18,25 +17,13 @@ use ds_doc::DocFault;
 use ds_wire::Bytes;
 use std::alloc::Global;
 
-/// The answer of `sim` where the bytes say a document.
-fn run_text(alloc: Global, bytes: &[u8]) -> Result<Reply, CommandFault>
-    ensures ok { IsSomeDocument bytes.now → IfOk result (SimGives bytes.now) }
-    ensures err { IfErr result (λ e. e ≡ NoMemory) }
-{
-    match simulate(alloc, bytes) {
-        Ok(text) => Ok(Reply::Prints(Bytes::from_vec(text))),
-        Err(Refusal::NotADocument) => Ok(Reply::Breaks(14, 0)),
-        Err(Refusal::NoMemory) => Err(CommandFault::NoMemory),
-    }
-}
-
 /// The answer of `sim`.
 fn simulated(alloc: Global, bytes: &[u8]) -> Result<Reply, CommandFault>
     ensures ok { IfOk result (SimGives bytes.now) }
     ensures err { IfErr result (λ e. e ≡ NoMemory) }
 {
-    match ds_doc::read(alloc, bytes) {
-        Ok(_document) => run_text(alloc, bytes),
+    match simulate(alloc, bytes) {
+        Ok(text) => Ok(Reply::Prints(Bytes::from_vec(text))),
         Err(DocFault::Refused(code, place)) => Ok(Reply::Breaks(code, place)),
         Err(DocFault::NoMemory) => Err(CommandFault::NoMemory),
     }

@@ -1,4 +1,4 @@
-use Rattle.std.proofs.Common.{◌≤◌, ◌+◌, ◌∙◌, ap, [], map, length, arith}
+use Rattle.std.proofs.Common.{◌∙◌, [], map, arith}
 use Rattle.ds_plan.specs.declared.host.HostSpec.{HostSpec}
 use Rattle.ds_setup.specs.Starts.{own_address}
 use Rattle.ds_boot.specs.Signing.{signer_behind}

@@ -1,5 +1,4 @@
 use Rattle.std.proofs.Common.{◌≡◌, ◌≤◌, ℕ, take, map, slice_get, length, []}
-use Rattle.std.specs.List.{flat_map}
 use Rattle.ds_plan.specs.Keys.{identity_key}
 use Rattle.ds_setup.specs.Lists.{each}
 use Rattle.ds_setup.specs.Starts.{own_addresses}

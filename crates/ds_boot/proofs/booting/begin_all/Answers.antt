@@ -1,4 +1,4 @@
-use Rattle.std.proofs.Common.{ℕ, List, length, subst, sym, ap, ◌∙◌}
+use Rattle.std.proofs.Common.{List, length, subst, sym, ap, ◌∙◌}
 use Rattle.std.specs.Prelude.{All}
 use Rattle.ds_label.specs.declared.category.PubKey.{PubKey}
 use Rattle.ds_plan.specs.declared.host.HostSpec.{HostSpec}

@@ -1,16 +1,14 @@
-use Rattle.std.proofs.Common.{ℕ, ◌≡◌, ◌≤◌, ◌+◌, List, [], length, length-append, map, Some, None, slice_get, subst, sym, ap, ◌∙◌, arith}
-use Rattle.std.specs.declared.alloc.Global.{Global}
-use Rattle.std.specs.Prelude.{Option, Vec}
+use Rattle.std.proofs.Common.{◌≡◌, ◌+◌, List, length, length-append, map, Some, None, slice_get, subst, sym, ap, ◌∙◌, arith}
+use Rattle.std.specs.Prelude.{Option}
 use Rattle.std.proofs.lemmas.List.{length-map}
 use Rattle.std.proofs.lemmas.Option.{none-some}
 use Rattle.lms_state.specs.Signers.{Signing}
 use Rattle.ds_exporter.specs.HostStates.{HostLane}
 use Rattle.ds_plan.specs.declared.host.HostSpec.{HostSpec}
 use Rattle.ds_plan.specs.Keys.{host_keys}
-use Rattle.ds_setup.specs.Lists.{each}
 use Rattle.ds_setup.proofs.Places.{length-each}
 use Rattle.ds_hosts.specs.declared.node.Node.{Node}
-use Rattle.ds_hosts.specs.Nodes.{NodeState, node_of}
+use Rattle.ds_hosts.specs.Nodes.{node_of}
 use Rattle.ds_boot.specs.Signing.{signer_behind}
 use Rattle.ds_boot.specs.Lanes.{lanes_begun, lanes_of}
 use Rattle.ds_boot.proofs.Lists.{behind_set, length_set, there_at}

@@ -1,8 +1,5 @@
-use Rattle.std.proofs.Common.{ℕ, ◌<◌, take, length, subst, sym}
-use Rattle.ds_plan.specs.declared.doc.Doc.{Doc}
-use Rattle.ds_boot.specs.Signing.{CanSign}
-use Rattle.std.specs.Prelude.{get_or, None}
-use Rattle.ds_boot.proofs.Signers.{MadeAt, made_at, signer_count, key_count, can_sign, cert_made, signers_made, signers_given}
+use Rattle.std.proofs.Common.{take}
+use Rattle.ds_boot.proofs.Signers.{made_at, signer_count, key_count, can_sign, cert_made, signers_made, signers_given}
 use Rattle.ds_boot.proofs.certs.next_cert.Goals as goal
 
 pub made_cert-requires-clause-there : goal.made_cert-requires-clause-there

@@ -1,4 +1,4 @@
-use Rattle.std.proofs.Common.{◌≡◌, ◌++◌, drop, map}
+use Rattle.std.proofs.Common.{◌≡◌, ◌++◌, drop}
 use Rattle.std.specs.List.{flat_map}
 use Rattle.ds_boot.specs.Parts.{lane_ends}
 use Rattle.ds_boot.proofs.conns.conn_ends.Given as goal

@@ -1,4 +1,4 @@
-use Rattle.std.proofs.Common.{arith, refl}
+use Rattle.std.proofs.Common.{arith}
 use Rattle.ds_setup.specs.Plans.{lane_inlet}
 use Rattle.ds_boot.proofs.Lists.{joined_step}
 use Rattle.ds_boot.proofs.conns.push_lane_inlets.Goals as goal

@@ -1,5 +1,5 @@
 use Rattle.ds_setup.specs.Starts.{own_addresses}
-use Rattle.std.proofs.Common.{true, ◌≡◌, ◌≤◌, List, [], length, subst, sym, ap, ◌∙◌, refl}
+use Rattle.std.proofs.Common.{true, ◌≡◌, ◌≤◌, List, [], length, subst, sym, ap, ◌∙◌}
 use Rattle.std.specs.Prelude.{All}
 use Rattle.std.specs.List.{AllByRecursion, flat_map}
 use Rattle.lms_state.specs.Signers.{Signing}
@@ -7,7 +7,6 @@ use Rattle.ds_label.specs.declared.category.Category.{Category}
 use Rattle.ds_label.specs.declared.category.PubKey.{PubKey}
 use Rattle.ds_cert.specs.declared.address.Address.{Address}
 use Rattle.ds_cert.specs.Ranges.{AddressRange}
-use Rattle.ds_plan.specs.declared.cert.CertSpec.{CertSpec}
 use Rattle.ds_plan.specs.Keys.{host_key}
 use Rattle.ds_plan.specs.Documents.{are_rows}
 use Rattle.ds_setup.specs.Signed.{DocCert, leaf_behind}

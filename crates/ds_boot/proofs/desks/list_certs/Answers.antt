@@ -1,4 +1,4 @@
-use Rattle.ds_boot.proofs.Kept.{next_fits_of, addresses_step}
+use Rattle.ds_boot.proofs.Kept.{next_fits_of}
 use Rattle.ds_boot.specs.Desks.{addresses_for}
 use Rattle.ds_boot.proofs.desks.list_certs.Goals as goal
 

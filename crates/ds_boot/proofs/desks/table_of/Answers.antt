@@ -1,4 +1,3 @@
-use Rattle.std.proofs.Common.{arith, sym}
 use Rattle.ds_boot.proofs.Rows.{row_new, row_foreign}
 use Rattle.ds_boot.proofs.desks.table_of.Goals as goal
 

@@ -2,7 +2,6 @@ use Rattle.std.proofs.Common.{ℕ, ◌<◌, List, length, map, subst, sym, ◌�
 use Rattle.ds_exporter.specs.HostStates.{connection_of}
 use Rattle.ds_label.specs.declared.category.PubKey.{PubKey}
 use Rattle.ds_boot.proofs.Signers.{key_count}
-use Rattle.ds_setup.proofs.Places.{inside}
 use Rattle.std.proofs.lemmas.Option.{slice_get_within}
 use Rattle.ds_boot.proofs.Wholes.{conns_are, ends_count, key_is}
 use Rattle.ds_boot.proofs.hosts.begin_ends.Goals as goal

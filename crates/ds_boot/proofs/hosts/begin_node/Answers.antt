@@ -1,6 +1,5 @@
 use Rattle.std.proofs.Common.{ℕ, List, length, subst, sym, ap, ◌∙◌}
 use Rattle.ds_label.specs.declared.category.PubKey.{PubKey}
-use Rattle.ds_plan.specs.declared.host.HostSpec.{HostSpec}
 use Rattle.ds_setup.specs.Signed.{leaf_behind}
 use Rattle.ds_boot.specs.Parts.{HasInlets}
 use Rattle.ds_boot.proofs.Signers.{key_count}

@@ -1,4 +1,3 @@
-use Rattle.std.proofs.Common.{refl}
 use Rattle.ds_exporter.specs.HostStates.{lane_of}
 use Rattle.ds_boot.specs.Lanes.{lane_begun}
 use Rattle.ds_boot.proofs.Lists.{each_step}

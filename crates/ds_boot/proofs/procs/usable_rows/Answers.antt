@@ -1,4 +1,4 @@
-use Rattle.std.proofs.Common.{◌≤◌, List, length, subst, sym, ◌∙◌, ap}
+use Rattle.std.proofs.Common.{◌≤◌, List, length, subst, sym}
 use Rattle.ds_label.specs.declared.category.Category.{Category}
 use Rattle.ds_boot.specs.Parts.{usable_of}
 use Rattle.ds_boot.proofs.Lists.{map_all}

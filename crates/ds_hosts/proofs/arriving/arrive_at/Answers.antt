@@ -1,4 +1,4 @@
-use Rattle.std.proofs.Common.{◌≤◌, length, map, ap, arith}
+use Rattle.std.proofs.Common.{◌≤◌, length, map, arith}
 use Rattle.std.proofs.lemmas.List.{length-map}
 use Rattle.ds_exporter.specs.HostStates.{connection_of}
 use Rattle.ds_hosts.proofs.Nothing.{none_arrive, nowhere}

@@ -32,3 +32,6 @@ pub returns-in_err-moved-clause-err : goal.returns-in_err-moved-clause-err
 returns-in_err-moved-clause-err c =
     on_err (map node_of (slice_set c.args.nodes.now.items c.args.host c.accept.new.self) ≡ map node_of c.args.nodes.now.items) c.from_residual.result
     (map_same node_of c.args.host c.args.nodes.now.items c.index_mut.result.now c.accept.new.self c.requires.there (c.in_err-moved.ensures.err ∙ ap node_of c.index_mut.ensures.value))
+
+pub returns-clause-still : goal.returns-clause-still
+returns-clause-still c = λ s. map_same node_of c.args.host c.args.nodes.now.items c.index_mut.result.now c.accept.new.self c.requires.there (c.in_ok-moved.ensures.still s ∙ ap node_of c.index_mut.ensures.value)

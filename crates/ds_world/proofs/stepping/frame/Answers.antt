@@ -1,8 +1,7 @@
 use Rattle.std.proofs.Common.{◌-◌, ◌≤◌, ◌<◌, slice_get, length, map, refl, arith}
 use Rattle.std.proofs.lemmas.List.{length-map}
-use Rattle.ds_model.specs.Plan.{HostPlan, host_plan}
-use Rattle.ds_model.specs.World.{Host}
-use Rattle.ds_model.specs.Step.{step_lane, ticked, Frame}
+use Rattle.ds_model.specs.Plan.{host_plan}
+use Rattle.ds_model.specs.Step.{step_lane, Frame}
 use Rattle.ds_delivery.proofs.Arrivals.{lane_grows}
 use Rattle.ds_scheme.specs.TheScheme.{scheme}
 use Rattle.ds_setup.specs.Plans.{plan_of}

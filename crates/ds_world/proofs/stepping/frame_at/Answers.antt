@@ -1,9 +1,9 @@
-use Rattle.std.proofs.Common.{◌-◌, slice_get, refl, sym, ap, ◌∙◌, subst, Some}
+use Rattle.std.proofs.Common.{◌-◌, slice_get, refl, sym, ap, ◌∙◌, subst}
 use Rattle.ds_model.specs.Plan.{HostPlan}
 use Rattle.ds_model.specs.World.{Host}
-use Rattle.ds_model.specs.Step.{step_lane, ticked}
+use Rattle.ds_model.specs.Step.{step_lane}
 use Rattle.ds_scheme.specs.TheScheme.{scheme}
-use Rattle.ds_exporter.proofs.Places.{map_at_here, some_is, stands_now}
+use Rattle.ds_exporter.proofs.Places.{map_at_here, map_same, some_is, stands_now}
 use Rattle.ds_hosts.specs.Nodes.{NodeState, node_of}
 use Rattle.ds_world.specs.Afters.{IsStepped}
 use Rattle.ds_world.proofs.OneHost.{still_is}
@@ -25,3 +25,6 @@ returns-clause-ok c = λ x h.
             stamps = c.in_ok-moved.ensures.stamps;
           }),
     )
+
+pub returns-clause-still : goal.returns-clause-still
+returns-clause-still c = λ s. map_same node_of c.args.host c.args.nodes.now.items c.index_mut.result.now c.frame.new.self c.requires.there (c.in_ok-moved.ensures.still s ∙ ap node_of c.index_mut.ensures.value)

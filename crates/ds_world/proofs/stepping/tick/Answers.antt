@@ -1,10 +1,8 @@
-use Rattle.std.proofs.Common.{◌-◌, ◌≤◌, ◌<◌, slice_get, length, map, refl, arith}
+use Rattle.std.proofs.Common.{◌≤◌, ◌<◌, length, map, refl, arith}
 use Rattle.std.proofs.lemmas.List.{length-map}
-use Rattle.ds_model.specs.Plan.{HostPlan, host_plan}
-use Rattle.ds_model.specs.World.{Host}
-use Rattle.ds_model.specs.Step.{step_lane, ticked, Tick}
+use Rattle.ds_model.specs.Plan.{host_plan}
+use Rattle.ds_model.specs.Step.{ticked, Tick}
 use Rattle.ds_delivery.proofs.Arrivals.{tick_grows}
-use Rattle.ds_scheme.specs.TheScheme.{scheme}
 use Rattle.ds_setup.specs.Plans.{plan_of}
 use Rattle.ds_hosts.specs.Nodes.{node_of}
 use Rattle.ds_world.specs.Inside.{state_of}

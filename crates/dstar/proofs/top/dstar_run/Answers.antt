@@ -1,4 +1,4 @@
-use Rattle.std.proofs.Common.{◌≡◌, ◌∙◌, sym, ap, subst, refl, Some, None, ℕ}
+use Rattle.std.proofs.Common.{◌≡◌, ◌∙◌, sym, ap, subst, refl, Some}
 use Rattle.dstar.specs.Words.{texts, call_in}
 use Rattle.dstar.specs.Causes.{Observed, Caused, Answers, asks_keeper}
 use Rattle.dstar.specs.declared.call.Call.{Call}

@@ -1,0 +1,10 @@
+pub mod Places
+pub mod Named
+pub mod Boxed
+pub mod Spaced
+pub mod Woven
+pub mod Ended
+pub mod Whole
+pub mod Sections
+pub mod Spelt
+pub mod Texts

@@ -1,0 +1,6 @@
+use Rattle.std.proofs.Common.{◌≡◌, ◌++◌, take, flat_map}
+use Rattle.ds_cert.specs.Spelling.{spelling_of_delegation}
+use Rattle.ds_report.proofs.hosts.spell_store.Given as goal
+
+abbrev pub invariant-loop-place : goal.invariant-loop-place
+invariant-loop-place l = l.out ≡ l.initial.out ++ flat_map spelling_of_delegation (take l.place l.store.items)

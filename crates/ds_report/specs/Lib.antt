@@ -1,0 +1,9 @@
+pub mod Printings
+pub mod Words
+pub mod Boxes
+pub mod Lanes
+pub mod Inlets
+pub mod Conns
+pub mod Hosts
+pub mod Laws
+pub mod Texts

@@ -1,0 +1,4 @@
+pub mod Ways
+pub mod Begun
+pub mod Texts
+pub mod TwoTexts

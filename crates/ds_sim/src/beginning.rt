@@ -1,0 +1,39 @@
+//! A run before its first event.
+#![tactic(auto)]
+
+ghost use Rattle.std.specs.Prelude.{◌≡◌, ℕ, List, [], IfOk, replicate};
+ghost use Rattle.ds_plan.specs.Documents.{IsDocument};
+ghost use Rattle.ds_setup.specs.Starts.{start_of};
+ghost use Rattle.ds_world.specs.Worlds.{world_of};
+
+use crate::routing::routes;
+use ds_boot::boot;
+use ds_plan::Doc;
+use ds_wire::Bytes;
+use ds_world::{LinkList, World};
+use std::alloc::{AllocError, Global};
+
+/// So many links on which nothing was written.
+fn empty_links(alloc: Global, count: usize) -> Result<LinkList, AllocError>
+    ensures { IfOk result (λ links. links.items ≡ replicate count []) }
+{
+    let mut links = Vec::with_capacity(alloc, count)?;
+    for _made in 0..count {
+        links.push(Bytes::new(alloc))?;
+    }
+    Ok(links)
+}
+
+/// The run of a document that was read, before its first event: each host as setup makes it, and no byte on its way.
+/// `AllocError` where memory runs out.
+pub fn setup(alloc: Global, doc: Doc) -> Result<World, AllocError>
+    requires { IsDocument doc }
+    ensures doc { IfOk result (λ world. world.doc ≡ doc) }
+    ensures start { IfOk result (λ world. world_of world ≡ start_of doc) }
+    ensures count { IfOk result (λ world. world.count ≡ 0) }
+{
+    let nodes = boot(alloc, &doc)?;
+    let routes = routes(alloc, &doc)?;
+    let links = empty_links(alloc, routes.len())?;
+    Ok(World::new(doc, nodes, links, routes))
+}

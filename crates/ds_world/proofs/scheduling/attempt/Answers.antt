@@ -1,0 +1,16 @@
+use Rattle.std.proofs.Common.{arith}
+use Rattle.std.proofs.lemmas.Bool.Decides.{nat_tests}
+use Rattle.ds_world.specs.Makings.{schedule_of}
+use Rattle.ds_world.specs.Worlds.{world_of}
+use Rattle.ds_setup.specs.Events.{meant}
+use Rattle.ds_world.proofs.Trying.{kept_event, still_event}
+use Rattle.ds_world.proofs.scheduling.attempt.Goals as goal
+
+pub returns-in-Still-clause-made : goal.returns-in-Still-clause-made
+returns-in-Still-clause-made c =
+    still_event c.args.world.now.doc (meant c.args.event) (schedule_of c.args.world.now c.args.making.now) (world_of c.try_event.new.self)
+    (rw c.in-Still.is at c.in_ok-try_event.ensures.ok).moves
+
+pub returns-in_ok-keep-in-Changed-clause-made : goal.returns-in_ok-keep-in-Changed-clause-made
+returns-in_ok-keep-in-Changed-clause-made c = kept_event c.args.world.now.doc (world_of c.args.world.now) (world_of c.try_event.new.self) c.args.making.now.events c.keep.new.making.events c.args.event c.args.making.now.left c.keep.new.making.left
+    (rw c.in-Changed.is at c.in_ok-try_event.ensures.ok).moves (grind (arith, nat_tests, c.if-making-eq0.false)) c.in_ok-keep-in-Changed.ensures.events c.in_ok-keep-in-Changed.ensures.left

@@ -1,0 +1,27 @@
+use Rattle.std.proofs.Common.{◌≡◌, ◌∙◌, length, ap, arith}
+use Rattle.std.specs.Prelude.{◌≢◌}
+use Rattle.std.proofs.lemmas.Bool.Decides.{nat_tests}
+use Rattle.ds_plan.specs.declared.doc.Doc.{Doc}
+use Rattle.ds_world.specs.Makings.{goes_round, goes_rounds, schedule_of}
+use Rattle.ds_world.proofs.Loops.{are_rounds, part_ends, part_goes}
+use Rattle.ds_world.proofs.scheduling.rounds.Goals as goal
+
+pub returns-then-len-before-clause-made : goal.returns-then-len-before-clause-made
+returns-then-len-before-clause-made c =
+    let d : Doc = c.args.world.now.doc in
+    let same : length c.round.new.making.events ≡ length c.loop.making.events = grind (arith, nat_tests, c.if-len-before.true, c.len.ensures, c.len-before.ensures) in
+    part_ends (goes_rounds d c.args.budget) (goes_round d c.args.budget) (are_rounds d c.args.budget) c.args.most c.loop.counter c.loop.world c.round.new.world c.loop.making c.round.new.making
+    (goes_rounds d c.args.budget c.args.most (schedule_of c.args.world.now c.args.making.now)) c.loop-test.true
+    (c.in_ok-round.ensures.made ∙ ap (λ (x : Doc). goes_round x c.args.budget (schedule_of c.loop.world c.loop.making)) c.loop.invariant.doc) same c.loop.invariant.made
+
+pub loop-preserved : goal.loop-preserved
+loop-preserved c =
+    let d : Doc = c.args.world.now.doc in
+    let differ : length c.round.new.making.events ≢ length c.loop.making.events = grind (arith, nat_tests, c.if-len-before.false, c.len.ensures, c.len-before.ensures) in
+    record {
+      made = part_goes (goes_rounds d c.args.budget) (goes_round d c.args.budget) (are_rounds d c.args.budget) c.args.most c.loop.counter c.loop.world c.round.new.world c.loop.making c.round.new.making
+          (goes_rounds d c.args.budget c.args.most (schedule_of c.args.world.now c.args.making.now)) c.loop-test.true
+          (c.in_ok-round.ensures.made ∙ ap (λ (x : Doc). goes_round x c.args.budget (schedule_of c.loop.world c.loop.making)) c.loop.invariant.doc) differ c.loop.invariant.made;
+      room = c.in_ok-round.ensures.room;
+      doc = c.round.ensures.doc ∙ c.loop.invariant.doc;
+    }

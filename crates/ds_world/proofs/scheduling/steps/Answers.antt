@@ -1,0 +1,19 @@
+use Rattle.std.proofs.Common.{◌∙◌, ap}
+use Rattle.ds_model.specs.Step.{Step}
+use Rattle.ds_model.specs.Schedule.{Schedule}
+use Rattle.ds_plan.specs.declared.doc.Doc.{Doc}
+use Rattle.ds_world.specs.Makings.{schedule_of, tries}
+use Rattle.ds_world.proofs.Tried.{more_tried, steps_of}
+use Rattle.ds_world.proofs.scheduling.steps.Goals as goal
+
+pub loop-index-preserved : goal.loop-index-preserved
+loop-index-preserved c =
+    let d : Doc = c.args.world.now.doc in
+    let start : Schedule = schedule_of c.args.world.now c.args.making.now in
+    let sch : Schedule = schedule_of c.loop-index.world c.loop-index.making in
+    let next : Schedule = schedule_of c.attempt.new.world c.attempt.new.making in
+    record {
+      made = more_tried d (steps_of c.args.host) c.loop-index.index start sch next c.loop-index.invariant.made (c.in_ok-attempt.ensures.made ∙ ap (λ (x : Doc). tries x (Step c.args.host c.loop-index.index) sch) c.loop-index.invariant.doc);
+      room = c.in_ok-attempt.ensures.room;
+      doc = c.attempt.ensures.doc ∙ c.loop-index.invariant.doc;
+    }

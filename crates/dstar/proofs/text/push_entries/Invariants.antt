@@ -1,6 +1,0 @@
-use Rattle.std.proofs.Common.{◌≡◌, ◌++◌, take, flat_map}
-use Rattle.dstar.specs.Text.{entry_line}
-use Rattle.dstar.proofs.text.push_entries.Given as goal
-
-abbrev pub invariant-loop-entry : goal.invariant-loop-entry
-invariant-loop-entry l = l.out.items ≡ l.initial.out.items ++ flat_map (entry_line l.name) (take l.entry-index l.entries)
