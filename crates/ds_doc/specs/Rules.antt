@@ -272,7 +272,7 @@ event_rules facts (events.Accept conn) = unknown_conn facts conn
 event_rules facts (events.Deliver conn) = unknown_conn facts conn
 event_rules facts (events.Tick host to) = unknown_host facts host
 event_rules facts (events.Inject conn bytes) = unknown_link facts conn
-event_rules facts (events.CopyBytes conn source from until) = unknown_link facts conn ++ unknown_link facts source
+event_rules facts (events.CopyBytes conn source from until) = unknown_link facts conn ++ unknown_conn facts source
 
 abbrev pub or_none : {A : Type 0} → Option (List A) → List A
 or_none None = []

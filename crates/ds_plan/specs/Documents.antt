@@ -287,7 +287,7 @@ is_event makers lanes links (Accept conn) = is_conn lanes links conn
 is_event makers lanes links (Deliver conn) = is_conn lanes links conn
 is_event makers lanes links (Tick host to) = is_place host makers
 is_event makers lanes links (Inject conn bytes) = is_link lanes links conn
-is_event makers lanes links (CopyBytes conn source from until) = is_link lanes links conn && is_link lanes links source
+is_event makers lanes links (CopyBytes conn source from until) = is_link lanes links conn && is_conn lanes links source
 
 abbrev pub events_of : Option (List Event) → List Event
 events_of None = []

@@ -90,7 +90,7 @@ fn event_rule(faults: &mut Vec<Fault>, facts: &Facts, event: &DraftEvent) -> Res
         DraftEvent::Inject { conn, .. } => link_rule(faults, facts, conn),
         DraftEvent::CopyBytes { conn, source, .. } => {
             link_rule(faults, facts, conn)?;
-            link_rule(faults, facts, source)
+            conn_rule(faults, facts, source)
         }
     }
 }
