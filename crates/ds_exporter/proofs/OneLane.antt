@@ -56,7 +56,7 @@ with_lane p f e = record e { lanes = at p f e.lanes }
 
 has_lane : (p : ℕ) (f : HostLane → HostLane) (lanes : List HostLane) → ((l : HostLane) → slice_get lanes p ≡ Some l → Keeps l (f l)) → (m : Option Message) → HasLane lanes m → HasLane (at p f lanes) m
 has_lane p f lanes keeps None h = h
-has_lane p f lanes keeps (Some m) h = any_at (takes m) cert_of p f lanes (λ l e. (keeps l e).cert) h
+has_lane p f lanes keeps (Some m) h = (any_at (takes m) cert_of p f lanes (λ l e. (keeps l e).cert) h.0, h.1)
 
 pub fits_lane : (e : HostState) (p : ℕ) (f : HostLane → HostLane) → IsFit e → ((l : HostLane) → slice_get e.lanes p ≡ Some l → Keeps l (f l)) → IsFit (with_lane p f e)
 fits_lane e p f fit keeps = record {

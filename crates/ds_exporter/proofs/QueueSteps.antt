@@ -132,7 +132,7 @@ module _ (e : HostState) (p l : ℕ) (m : Message) (within : p < length e.procs)
   pub on_lane : IsFit e → ((y : HostLane) → slice_get e.lanes l ≡ Some y → IsSentOn y.lane.cert m) → IsOnAt l e.lanes m
   on_lane fit sent y there = there_is (IsOn y.lane.cert m) e.procs p within (λ x h.
       let any = subst (HasLane e.lanes) (hand_at x h).0 (all_get (HandHasLane e.lanes) e.procs p x fit.hands h) in
-      record { to = (sent y there).to; label = (sent y there).label; range = any.4.range })
+      record { to = (sent y there).to; label = (sent y there).label; range = any.0.4.range })
 
   module _ (stamp host : ℕ) where
     abbrev who : Actor

@@ -13,6 +13,7 @@ use Rattle.ds_model.specs.ProcessStep.{AsksJudgement, judged_after_reply}
 use Rattle.ds_model.specs.Step.{attached, judged}
 use Rattle.ds_desk.specs.Desks.{IsReplay, entered}
 use Rattle.ds_scheme.specs.TheScheme.{scheme}
+use Rattle.ds_scheme.proofs.Spelt.{spelling_is}
 use Rattle.ds_exporter.specs.HostStates.{HostProcess, HostState}
 use Rattle.ds_exporter.specs.PlainHosts.{host_of, site_of, plain_process}
 use Rattle.ds_exporter.specs.Conditions.{IsFit}
@@ -53,7 +54,9 @@ module _ (e : HostState) (p stamp : ℕ) (who : Actor) (m : Message) (verdict : 
     script = refl;
     named = λ n. n;
     numbered = λ n. n;
-    hand = λ l. (may.lane.0, may.lane.1, may.lane.2, may.lane.3, record { to = may.lane.4.to; label = may.lane.4.label; range = record { certs = may.fits; payload = short } });
+    hand = λ l. (
+        (may.lane.0, may.lane.1, may.lane.2, may.lane.3, record { to = may.lane.4.to; label = may.lane.4.label; range = record { certs = may.fits; payload = short } }),
+        (spelling_is (record m { certs = certs })).1 (record { to = may.parts.to; slot = may.parts.slot; label = may.parts.label; own = may.parts.own; clear = may.parts.clear; range = record { certs = may.fits; payload = short } }, may.bytes));
     going = λ g. (free x h).1;
   }
   keeps_by (Err rule) fails x h = record {

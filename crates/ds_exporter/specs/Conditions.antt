@@ -1,5 +1,5 @@
 -- Which parts fit together as one host.
-use Rattle.std.specs.Prelude.{◌≡◌, ◌≢◌, ℕ, ◌+◌, ◌<◌, ◌≤◌, ◌^◌, List, [], ◌∷◌, length, map, slice_get, slice_index_or, All, AllPairs, Option, Some, None, IsTrue}
+use Rattle.std.specs.Prelude.{◌≡◌, ◌≢◌, ℕ, ◌+◌, ◌<◌, ◌≤◌, ◌^◌, List, [], ◌∷◌, length, map, slice_get, slice_index_or, All, AllPairs, Option, Some, None, IsTrue, true}
 use Rattle.std.specs.List.{Any}
 use Rattle.ds_label.specs.declared.category.PubKey.{PubKey}
 use Rattle.ds_label.specs.declared.category.Category.{Category}
@@ -20,6 +20,7 @@ use Rattle.ds_box.specs.declared.entry.BoxEntry.{BoxEntry}
 use Rattle.ds_lane.specs.Lanes.{IsOn}
 use Rattle.ds_inlet.specs.Inlets.{CountedLane}
 use Rattle.ds_inlet.specs.Connections.{Connection}
+use Rattle.ds_scheme.specs.Spelled.{has_spelling}
 use Rattle.ds_exporter.specs.HostStates.{HostProcess, HostBox, HostLane, HostState}
 use Rattle.ds_exporter.specs.PlainHosts.{name_of_inlet}
 
@@ -133,10 +134,10 @@ AreNumbered here rows x = All (IsNumbered here rows) x.process.names
 
 -- MESSAGES ON THEIR WAY
 
--- a message in a process's hand is of one of the lanes
+-- a message in a process's hand is of one of the lanes, and has a spelling
 abbrev pub HasLane : List HostLane → Option Message → Type 0
 HasLane lanes None = Unit {0}
-HasLane lanes (Some m) = Any (λ l. IsOn l.lane.cert m) lanes
+HasLane lanes (Some m) = Any (λ l. IsOn l.lane.cert m) lanes × (has_spelling m ≡ true)
 
 abbrev pub HandHasLane : List HostLane → HostProcess → Type 0
 HandHasLane lanes x = HasLane lanes x.hand
@@ -188,7 +189,7 @@ pub record IsFit (e : HostState) : Type 0 where
   pub named_boxes : All (IsBoxNamed e.desk.here e.desk.desk.rows) e.boxes
   pub named_conns : All (IsConnNamed e.desk.here e.desk.desk.rows) e.conns
   pub usable : All (AreNumbered e.desk.here e.desk.desk.rows) e.procs
-  -- messages in hand have their lanes and aren't at a script's end, passed ones have their mailboxes
+  -- messages in hand have their lanes and spellings and aren't at a script's end, passed ones have their mailboxes
   pub hands : All (HandHasLane e.lanes) e.procs
   pub going : All IsGoing e.procs
   pub passed : All (PassedHasBox e.boxes) e.conns

@@ -1,7 +1,9 @@
 -- A message to another host, which the desk judges.
-use Rattle.std.specs.Prelude.{◌≡◌, ℕ, List, Option, Some, None, Result, Ok, Err, position}
-use Rattle.std.specs.List.{Any}
+use Rattle.std.specs.Prelude.{◌≡◌, ℕ, ◌<◌, ◌^◌, List, Option, Some, None, Result, Ok, Err, position}
+use Rattle.std.specs.List.{AllByRecursion, Any}
+use Rattle.ds_wire.specs.Fields.{IsBytes}
 use Rattle.ds_label.specs.declared.rule.Rule.{Rule}
+use Rattle.ds_cert.specs.Ranges.{KeyFits, LabelFits}
 use Rattle.ds_msg.specs.declared.message.Message.{Message}
 use Rattle.ds_msg.specs.Ranges.{CertsFit}
 use Rattle.ds_model.specs.ExporterRules.{attach, judge_send}
@@ -28,11 +30,21 @@ abbrev pub FindsLane : List HostLane → Message → Option ℕ → Type 0
 FindsLane lanes m None = position (is_lane_for m.to m.label) lanes ≡ None
 FindsLane lanes m (Some number) = (place : ℕ) × (position (is_lane_for m.to m.label) lanes ≡ Some place) × HasItsLane lanes m
 
+-- what the message has beside its certificates and its payload is in range
+pub record HasParts (m : Message) : Type 0 where
+  pub to : KeyFits m.to
+  pub slot : m.slot < 2 ^ 32
+  pub label : LabelFits m.label
+  pub own : LabelFits m.own
+  pub clear : LabelFits m.clear
+
 -- no rule fails, and these certificates go with it
 pub record MaySend (k : DeskView) (lanes : List HostLane) (m : Message) (certs : List (List ℕ)) : Type 0 where
   pub rule : send_rule k lanes m ≡ None
   pub attached : certs ≡ send_certs k m
   pub fits : CertsFit certs
+  pub bytes : AllByRecursion IsBytes certs
+  pub parts : HasParts m
   pub lane : HasItsLane lanes m
 
 -- so, or the first rule that fails

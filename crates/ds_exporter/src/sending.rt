@@ -8,7 +8,7 @@ ghost use Rattle.ds_model.specs.ProcessStep.{AsksJudgement};
 ghost use Rattle.ds_script.specs.Fits.{IsShort};
 ghost use Rattle.ds_desk.specs.Desks.{kept_of};
 ghost use Rattle.ds_exporter.specs.HostStates.{lane_of, process_of};
-ghost use Rattle.ds_exporter.specs.Sending.{FindsLane, IsSendVerdict, holding, judged_proc, send_rule};
+ghost use Rattle.ds_exporter.specs.Sending.{FindsLane, HasParts, IsSendVerdict, holding, judged_proc, send_rule};
 ghost use Rattle.ds_exporter.specs.Stamping.{IsBefore};
 ghost use Rattle.ds_exporter.specs.Stepping.{Asks, IsFree, IsReadyAt, IsStepped, always};
 
@@ -16,6 +16,7 @@ use crate::exporter::Exporter;
 use crate::noting::{refused_at, reserve_proc};
 use crate::parts::{LaneList, ProcList};
 use crate::queueing::{goes_onto, lane_for};
+use ds_cert::{show_key, show_label};
 use ds_desk::DeskState;
 use ds_flow::{FlowFault, attach, judge_send};
 use ds_label::Rule;
@@ -59,6 +60,17 @@ fn send_rule(
     }
 }
 
+/// What a message has beside its certificates and its payload is in range. It does nothing.
+fn show_parts(message: &Message)
+    ensures { HasParts message.now }
+{
+    show_key(&message.to);
+    let _slot = message.slot;
+    show_label(&message.label);
+    show_label(&message.own);
+    show_label(&message.clear);
+}
+
 /// Judges a message to another host: the certificates that go with it, or the first rule that fails.
 fn judge_message(
     desk: &DeskState,
@@ -80,6 +92,7 @@ fn judge_message(
         &message.own,
         &message.clear,
     )?;
+    show_parts(message);
     Ok(Ok(certs))
 }
 

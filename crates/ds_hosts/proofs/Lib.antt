@@ -2,3 +2,4 @@ pub mod Keeps
 pub mod Arrivals
 pub mod Nothing
 pub mod Places
+pub mod Hands

@@ -1,9 +1,11 @@
 -- A host of a run: its exporter where it runs, and where it is silent the connections to it. Nobody acts for a silent host: bytes
 -- arrive there, and nothing reads them.
-use Rattle.std.specs.Prelude.{◌≡◌, ◌+◌, ℕ, true, List, [], map, get_or, None}
+use Rattle.std.specs.Prelude.{◌≡◌, ◌+◌, ℕ, true, List, [], map, get_or, slice_get, None, Some}
+use Rattle.ds_msg.specs.declared.message.Message.{Message}
 use Rattle.ds_model.specs.Plan.{HostPlan}
-use Rattle.ds_model.specs.World.{Conn, Host}
+use Rattle.ds_model.specs.World.{Conn, Host, Process}
 use Rattle.ds_model.specs.Step.{HostAndConn}
+use Rattle.ds_scheme.specs.Spelled.{has_spelling}
 use Rattle.ds_setup.specs.Starts.{empty_desk}
 use Rattle.ds_inlet.specs.Connections.{Connection}
 use Rattle.ds_inlet.specs.PlainConnections.{plain_conn}
@@ -55,6 +57,10 @@ arrived_in place x = get_or (map arrived_of (conns_of x)) place []
 -- the host and that connection
 abbrev pub ends_in : (link : List ℕ) → (place : ℕ) → NodeState → HostAndConn
 ends_in link place x = record { host = plain_host x; conn = conn_in link place x }
+
+-- each message that a process has in hand has a spelling
+abbrev pub SpellsHands : Host → Type 0
+SpellsHands x = (p : ℕ) (y : Process) (m : Message) → slice_get x.procs p ≡ Some y → y.hand ≡ Some m → has_spelling m ≡ true
 
 -- WHAT IT KEEPS
 

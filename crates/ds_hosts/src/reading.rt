@@ -1,14 +1,14 @@
-//! What has arrived, and what lanes have written.
+//! What has arrived, what lanes have written, and what processes have in hand.
 #![tactic(auto)]
 
 ghost use Rattle.std.specs.Prelude.{◌≡◌, [], length, map, get_or, slice_get};
 ghost use Rattle.ds_model.specs.Step.{stream_from};
 ghost use Rattle.ds_exporter.specs.HostStates.{connection_of, lane_of};
-ghost use Rattle.ds_exporter.specs.PlainHosts.{arrived_of, plain_worker};
-ghost use Rattle.ds_hosts.specs.Nodes.{arrived_in, node_of, plain_host};
+ghost use Rattle.ds_exporter.specs.PlainHosts.{arrived_of, host_of, plain_worker};
+ghost use Rattle.ds_hosts.specs.Nodes.{SpellsHands, arrived_in, node_of, plain_host};
 
 use crate::node::Node;
-use ds_exporter::{ConnList, LaneList};
+use ds_exporter::{ConnList, Exporter, LaneList};
 
 /// How many bytes arrived at the connection at a place; none where there is no connection.
 fn count_at(conns: &ConnList, place: u32) -> usize
@@ -30,6 +30,13 @@ fn stream_at(lanes: &LaneList, place: u32) -> &[u8]
     }
 }
 
+/// Each message that a process of a running host has in hand has a spelling. It does nothing.
+fn hands_of(exporter: &Exporter)
+    ensures { SpellsHands (host_of exporter.now) }
+{
+    exporter.fit();
+}
+
 impl Node {
     /// How many bytes arrived at a connection, by its place in the host's list; none where there is no such connection.
     pub fn arrived(&self, conn: u32) -> usize
@@ -48,6 +55,16 @@ impl Node {
         match self {
             Node::Running(exporter) => stream_at(exporter.lanes(), lane),
             Node::Silent(_) => &[],
+        }
+    }
+
+    /// Each message that a process has in hand has a spelling. It does nothing.
+    pub fn hands(&self)
+        ensures { SpellsHands (plain_host (node_of self.now)) }
+    {
+        match self {
+            Node::Running(exporter) => hands_of(exporter),
+            Node::Silent(_) => (),
         }
     }
 }

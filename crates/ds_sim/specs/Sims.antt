@@ -8,6 +8,7 @@ use Rattle.ds_plan.specs.declared.event.Event.{Event as DocEvent}
 use Rattle.ds_model.specs.Plan.{Plan}
 use Rattle.ds_model.specs.World.{World}
 use Rattle.ds_model.specs.Step.{Event, run}
+use Rattle.ds_model.specs.Lawful.{Lawful}
 use Rattle.ds_model.specs.Schedule.{IsCanonical}
 use Rattle.ds_model.specs.Text.{text_of}
 use Rattle.ds_model.specs.Print.{printed}
@@ -15,17 +16,19 @@ use Rattle.ds_scheme.specs.TheScheme.{scheme}
 use Rattle.ds_setup.specs.Plans.{plan_of}
 use Rattle.ds_setup.specs.Starts.{start_of}
 use Rattle.ds_setup.specs.Events.{IsScheduled, meant}
-use Rattle.ds_world.specs.Worlds.{WorldState, IsWorld, routes_of, world_of}
+use Rattle.ds_world.specs.Worlds.{WorldState, IsFresh, IsWorld, routes_of, world_of}
 use Rattle.ds_report.specs.Printings.{printing_of}
 
 -- the text of the plain world that a document's setup comes to by these events
 abbrev pub text_of_run : Doc → List Event → List ℕ
 text_of_run d events = text_of (printed (printing_of d) (plan_of d)) (plan_of d) (run scheme (plan_of d) (start_of d) events)
 
--- It is the text of the document's run: by the events that the document gives, or else by those of the canonical schedule.
+-- It is the text of the document's run: by the events that the document gives, or else by those of the canonical schedule. What
+-- that run delivers it delivers only where the rules hold.
 pub record IsTextOf (d : Doc) (text : List ℕ) : Type 0 where
   pub events : List Event
   pub scheduled : IsScheduled d events
+  pub lawful : Lawful scheme (plan_of d) (start_of d) events
   pub printed : text ≡ text_of_run d events
 
 -- the document as it begins: its events are apart
@@ -46,6 +49,7 @@ pub record Happened (budget : ℕ) (given : Option (List DocEvent)) (old new : W
   pub events : List Event
   pub done : IsDoneBy budget (plan_of old.doc) (world_of old) given events
   pub world : world_of new ≡ run scheme (plan_of old.doc) (world_of old) events
+  pub lawful : IsFresh old → Lawful scheme (plan_of old.doc) (start_of old.doc) events
   pub doc : new.doc ≡ old.doc
 
 -- SETUP

@@ -10,3 +10,4 @@ pub mod Tried
 pub mod Fed
 pub mod Injected
 pub mod Counts
+pub mod Hands

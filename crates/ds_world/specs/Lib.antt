@@ -1,4 +1,5 @@
 pub mod Worlds
 pub mod Inside
+pub mod Hands
 pub mod Afters
 pub mod Makings

@@ -5,8 +5,10 @@ use Rattle.ds_model.specs.Plan.{ConnPlan, Source, Link, OfLane, host_plan}
 use Rattle.ds_model.specs.World.{Conn, World}
 use Rattle.ds_model.specs.Step.{stream_from, worker_at}
 use Rattle.ds_plan.specs.declared.doc.Doc.{Doc}
+use Rattle.ds_plan.specs.Documents.{IsDocument}
 use Rattle.ds_setup.specs.Lists.{each}
 use Rattle.ds_setup.specs.Plans.{conn_plans_of, plan_of}
+use Rattle.ds_setup.specs.Starts.{start_of}
 use Rattle.ds_hosts.specs.Nodes.{NodeState, Silent, IsPlanOf, IsUntil, arrived_in, conn_in, conns_of, plain_host}
 use Rattle.ds_world.specs.declared.route.Feed.{Feed}
 use Rattle.ds_world.specs.declared.route.Feed.TheVariants as feeds
@@ -103,3 +105,8 @@ pub record IsWorld (w : WorldState) : Type 0 where
   pub links : length w.links ≡ length (routes_of w.doc)
   pub nodes : (host : ℕ) (x : NodeState) → slice_get w.nodes host ≡ Some x → IsNodeAt w.doc w.count host x
   pub routes : (k : ℕ) (r : Route) → slice_get (routes_of w.doc) k ≡ Some r → IsRouteAt w k r
+
+-- the world of a document that was read, as setup makes it
+pub record IsFresh (w : WorldState) : Type 0 where
+  pub document : IsDocument w.doc
+  pub start : world_of w ≡ start_of w.doc

@@ -1,9 +1,10 @@
-//! What connections read.
+//! What connections read, and what processes have in hand.
 #![tactic(auto)]
 
 ghost use Rattle.std.specs.Prelude.{◌≡◌, ◌≤◌, ◌<◌, [], length, map, take, drop, get_or, slice_get, IfOk};
+ghost use Rattle.std.specs.List.{AllByRecursion};
 ghost use Rattle.ds_model.specs.Step.{stream_from, worker_at};
-ghost use Rattle.ds_hosts.specs.Nodes.{arrived_in, node_of, plain_host};
+ghost use Rattle.ds_hosts.specs.Nodes.{SpellsHands, arrived_in, node_of, plain_host};
 ghost use Rattle.ds_world.specs.Worlds.{IsFront, arrived_by, no_node, stream_by};
 ghost use Rattle.ds_world.specs.Inside.{state_of};
 
@@ -106,4 +107,13 @@ pub(crate) fn part_of(
 {
     let stream = stream_of(parts, conn, route.source);
     range_of(*parts.nodes.allocator(), stream, from, until)
+}
+
+/// At each host, each message that a process has in hand has a spelling. It does nothing.
+pub(crate) fn hands_of(nodes: &NodeList)
+    ensures { AllByRecursion (λ n. SpellsHands (plain_host (node_of n))) nodes.now.items }
+{
+    for node in nodes.as_slice() {
+        node.hands();
+    }
 }

@@ -3,14 +3,16 @@
 
 ghost use Rattle.std.specs.Prelude.{◌≡◌, ◌-◌, ◌+◌, ◌<◌, ◌^◌, ◌∷◌, ◌++◌, [], length, map, OnOk, IfOk};
 ghost use Rattle.ds_model.specs.Lists.{gathered};
+ghost use Rattle.ds_model.specs.Lawful.{Lawful};
 ghost use Rattle.ds_model.specs.Step.{Accept, Frame, Step, run};
 ghost use Rattle.ds_model.specs.Schedule.{IsCanonical, host_events};
 ghost use Rattle.ds_scheme.specs.TheScheme.{scheme};
 ghost use Rattle.ds_setup.specs.Events.{meant};
 ghost use Rattle.ds_setup.specs.Plans.{plan_of};
+ghost use Rattle.ds_setup.specs.Starts.{start_of};
 ghost use Rattle.ds_world.specs.Afters.{IsAfterUnlessStill};
-ghost use Rattle.ds_world.specs.Worlds.{world_of};
-ghost use Rattle.ds_world.specs.Makings.{HasRoom, connects, connects_all, delivers, goes_round, goes_rounds, schedule_of, takes_turns, tries, tries_all};
+ghost use Rattle.ds_world.specs.Worlds.{IsFresh, world_of};
+ghost use Rattle.ds_world.specs.Makings.{GoesOn, HasRoom, connects, connects_all, delivers, goes_round, goes_rounds, schedule_of, takes_turns, tries, tries_all};
 
 use crate::acting::happen_unless_still;
 use crate::world::World;
@@ -58,6 +60,7 @@ pub(crate) fn attempt(
 ) -> Result<(), AllocError>
     requires room { HasRoom world.old making.old }
     ensures made { OnOk result (schedule_of world.new making.new ≡ tries world.old.doc (meant event) (schedule_of world.old making.old)) }
+    ensures goes { OnOk result (GoesOn world.old making.old world.new making.new) }
     ensures room { OnOk result (HasRoom world.new making.new) }
     ensures doc { world.new.doc ≡ world.old.doc }
 {
@@ -68,6 +71,7 @@ pub(crate) fn attempt(
         Moved::Still => Ok(()),
         Moved::Changed => {
             keep(making, event)?;
+            world.hands();
             Ok(())
         }
     }
@@ -82,6 +86,7 @@ fn deliveries(
 ) -> Result<(), AllocError>
     requires room { HasRoom world.old making.old }
     ensures made { OnOk result (schedule_of world.new making.new ≡ delivers world.old.doc conn most (schedule_of world.old making.old)) }
+    ensures goes { OnOk result (GoesOn world.old making.old world.new making.new) }
     ensures room { OnOk result (HasRoom world.new making.new) }
     ensures doc { world.new.doc ≡ world.old.doc }
 {
@@ -99,6 +104,7 @@ fn deliveries(
 fn turn(world: &mut World, making: &mut Making, conn: u32, budget: u32) -> Result<(), AllocError>
     requires room { HasRoom world.old making.old }
     ensures made { OnOk result (schedule_of world.new making.new ≡ delivers world.old.doc conn budget (tries world.old.doc (Accept conn) (schedule_of world.old making.old))) }
+    ensures goes { OnOk result (GoesOn world.old making.old world.new making.new) }
     ensures room { OnOk result (HasRoom world.new making.new) }
     ensures doc { world.new.doc ≡ world.old.doc }
 {
@@ -111,6 +117,7 @@ fn turn(world: &mut World, making: &mut Making, conn: u32, budget: u32) -> Resul
 fn turns(world: &mut World, making: &mut Making, conn: u32, budget: u32) -> Result<(), AllocError>
     requires room { HasRoom world.old making.old }
     ensures made { OnOk result (schedule_of world.new making.new ≡ takes_turns world.old.doc conn budget budget (schedule_of world.old making.old)) }
+    ensures goes { OnOk result (GoesOn world.old making.old world.new making.new) }
     ensures room { OnOk result (HasRoom world.new making.new) }
     ensures doc { world.new.doc ≡ world.old.doc }
 {
@@ -128,6 +135,7 @@ fn turns(world: &mut World, making: &mut Making, conn: u32, budget: u32) -> Resu
 fn connect(world: &mut World, making: &mut Making, conn: u32, budget: u32) -> Result<(), AllocError>
     requires room { HasRoom world.old making.old }
     ensures made { OnOk result (schedule_of world.new making.new ≡ connects world.old.doc budget conn (schedule_of world.old making.old)) }
+    ensures goes { OnOk result (GoesOn world.old making.old world.new making.new) }
     ensures room { OnOk result (HasRoom world.new making.new) }
     ensures doc { world.new.doc ≡ world.old.doc }
 {
@@ -146,6 +154,7 @@ fn all_connect(
 ) -> Result<(), AllocError>
     requires room { HasRoom world.old making.old }
     ensures made { OnOk result (schedule_of world.new making.new ≡ connects_all world.old.doc budget conns (schedule_of world.old making.old)) }
+    ensures goes { OnOk result (GoesOn world.old making.old world.new making.new) }
     ensures room { OnOk result (HasRoom world.new making.new) }
     ensures doc { world.new.doc ≡ world.old.doc }
 {
@@ -159,6 +168,7 @@ fn all_connect(
 fn steps(world: &mut World, making: &mut Making, host: u32, procs: u32) -> Result<(), AllocError>
     requires room { HasRoom world.old making.old }
     ensures made { OnOk result (schedule_of world.new making.new ≡ tries_all world.old.doc (gathered (λ p. Step host p ∷ []) procs) (schedule_of world.old making.old)) }
+    ensures goes { OnOk result (GoesOn world.old making.old world.new making.new) }
     ensures room { OnOk result (HasRoom world.new making.new) }
     ensures doc { world.new.doc ≡ world.old.doc }
 {
@@ -177,6 +187,7 @@ fn two_frames(
 ) -> Result<(), AllocError>
     requires room { HasRoom world.old making.old }
     ensures made { OnOk result (schedule_of world.new making.new ≡ tries_all world.old.doc (Frame host (lane - 1) ∷ Frame host (lane - 1) ∷ []) (schedule_of world.old making.old)) }
+    ensures goes { OnOk result (GoesOn world.old making.old world.new making.new) }
     ensures room { OnOk result (HasRoom world.new making.new) }
     ensures doc { world.new.doc ≡ world.old.doc }
 {
@@ -189,6 +200,7 @@ fn two_frames(
 fn frames(world: &mut World, making: &mut Making, host: u32, lanes: u32) -> Result<(), AllocError>
     requires room { HasRoom world.old making.old }
     ensures made { OnOk result (schedule_of world.new making.new ≡ tries_all world.old.doc (gathered (λ l. Frame host l ∷ Frame host l ∷ []) lanes) (schedule_of world.old making.old)) }
+    ensures goes { OnOk result (GoesOn world.old making.old world.new making.new) }
     ensures room { OnOk result (HasRoom world.new making.new) }
     ensures doc { world.new.doc ≡ world.old.doc }
 {
@@ -202,6 +214,7 @@ fn frames(world: &mut World, making: &mut Making, host: u32, lanes: u32) -> Resu
 fn host_round(world: &mut World, making: &mut Making, host: u32) -> Result<(), AllocError>
     requires room { HasRoom world.old making.old }
     ensures made { OnOk result (schedule_of world.new making.new ≡ tries_all world.old.doc (host_events (plan_of world.old.doc) host) (schedule_of world.old making.old)) }
+    ensures goes { OnOk result (GoesOn world.old making.old world.new making.new) }
     ensures room { OnOk result (HasRoom world.new making.new) }
     ensures doc { world.new.doc ≡ world.old.doc }
 {
@@ -216,6 +229,7 @@ fn host_round(world: &mut World, making: &mut Making, host: u32) -> Result<(), A
 fn hosts_round(world: &mut World, making: &mut Making, hosts: u32) -> Result<(), AllocError>
     requires room { HasRoom world.old making.old }
     ensures made { OnOk result (schedule_of world.new making.new ≡ tries_all world.old.doc (gathered (host_events (plan_of world.old.doc)) hosts) (schedule_of world.old making.old)) }
+    ensures goes { OnOk result (GoesOn world.old making.old world.new making.new) }
     ensures room { OnOk result (HasRoom world.new making.new) }
     ensures doc { world.new.doc ≡ world.old.doc }
 {
@@ -229,6 +243,7 @@ fn hosts_round(world: &mut World, making: &mut Making, hosts: u32) -> Result<(),
 fn round(world: &mut World, making: &mut Making, budget: u32) -> Result<(), AllocError>
     requires room { HasRoom world.old making.old }
     ensures made { OnOk result (schedule_of world.new making.new ≡ goes_round world.old.doc budget (schedule_of world.old making.old)) }
+    ensures goes { OnOk result (GoesOn world.old making.old world.new making.new) }
     ensures room { OnOk result (HasRoom world.new making.new) }
     ensures doc { world.new.doc ≡ world.old.doc }
 {
@@ -243,6 +258,7 @@ fn round(world: &mut World, making: &mut Making, budget: u32) -> Result<(), Allo
 fn rounds(world: &mut World, making: &mut Making, budget: u32, most: u64) -> Result<(), AllocError>
     requires room { HasRoom world.old making.old }
     ensures made { OnOk result (schedule_of world.new making.new ≡ goes_rounds world.old.doc budget most (schedule_of world.old making.old)) }
+    ensures goes { OnOk result (GoesOn world.old making.old world.new making.new) }
     ensures room { OnOk result (HasRoom world.new making.new) }
     ensures doc { world.new.doc ≡ world.old.doc }
 {
@@ -260,12 +276,16 @@ impl World {
     /// Lets the hosts take turns until nothing changes, or until there were so many events, and answers these events: the
     /// canonical schedule. `AllocError` where memory ran out; it isn't told then how many of the events happened.
     pub fn canonical(&mut self, budget: u32) -> Result<EventList, AllocError>
-        requires count { self.old.count + budget < 2 ^ 64 }
+        requires more { self.old.count + budget < 2 ^ 64 }
         ensures list { IfOk result (λ events. IsCanonical scheme (plan_of self.old.doc) budget (world_of self.old) (map meant events)) }
         ensures ok { IfOk result (λ events. world_of self.new ≡ run scheme (plan_of self.old.doc) (world_of self.old) (map meant events)) }
+        // Of a world as setup makes it, messages are delivered only where the rules hold.
+        ensures lawful { IfOk result (λ events. IsFresh self.old → Lawful scheme (plan_of self.old.doc) (start_of self.old.doc) (map meant events)) }
         ensures doc { self.new.doc ≡ self.old.doc }
+        ensures count { IfOk result (λ events. self.new.count ≡ self.old.count + length events) }
     {
         let alloc = self.memory();
+        self.hands();
         let mut making = Making {
             events: EventList::new(alloc),
             left: budget,

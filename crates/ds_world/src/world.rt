@@ -2,16 +2,20 @@
 #![tactic(auto)]
 
 ghost use Rattle.std.specs.Prelude.{◌≡◌, ◌+◌, ◌<◌, ◌^◌, length, map, OnOk, OnErr, IfOk};
+ghost use Rattle.ds_model.specs.Lawful.{Lawful};
 ghost use Rattle.ds_model.specs.Step.{step, run};
 ghost use Rattle.ds_setup.specs.Plans.{plan_of};
+ghost use Rattle.ds_setup.specs.Starts.{start_of};
 ghost use Rattle.ds_setup.specs.Events.{meant};
 ghost use Rattle.ds_scheme.specs.TheScheme.{scheme};
 ghost use Rattle.ds_exporter.specs.Moving.{Moves};
 ghost use Rattle.ds_hosts.specs.Nodes.{node_of};
-ghost use Rattle.ds_world.specs.Worlds.{IsWorld, routes_of, world_of};
+ghost use Rattle.ds_world.specs.Worlds.{IsFresh, IsWorld, routes_of, world_of};
+ghost use Rattle.ds_world.specs.Hands.{AreSpelledAfter, HandsAreSpelled};
 
 use crate::acting::happen;
 use crate::parts::{LinkList, WorldParts};
+use crate::reading::hands_of;
 use crate::route::RouteList;
 use ds_exporter::Moved;
 use ds_hosts::NodeList;
@@ -119,16 +123,39 @@ impl World {
         Ok(moved)
     }
 
-    /// The events happen, one after another. `AllocError` where memory runs out; some of them happened then.
-    pub fn run(&mut self, events: &EventList) -> Result<(), AllocError>
+    /// Each message that a process has in hand has a spelling. It does nothing.
+    pub fn hands(&self)
+        ensures { HandsAreSpelled (world_of self.now) }
+    {
+        hands_of(&self.parts.nodes);
+    }
+
+    /// The events happen, one after another, and messages in hand have spellings all through.
+    fn run_each(&mut self, events: &[Event]) -> Result<(), AllocError>
         requires more { self.old.count + length events.now < 2 ^ 64 }
         ensures ok { OnOk result (world_of self.new ≡ run scheme (plan_of self.old.doc) (world_of self.old) (map meant events.now)) }
         ensures doc { self.new.doc ≡ self.old.doc }
         ensures count { OnOk result (self.new.count ≡ self.old.count + length events.now) }
+        ensures spelled { OnOk result (AreSpelledAfter (plan_of self.old.doc) (world_of self.old) (map meant events.now)) }
     {
-        for event in events.as_slice() {
+        for event in events {
+            self.hands();
             self.apply(event)?;
         }
+        self.hands();
+        Ok(())
+    }
+
+    /// The events happen, one after another. `AllocError` where memory runs out; some of them happened then.
+    pub fn run(&mut self, events: &EventList) -> Result<(), AllocError>
+        requires more { self.old.count + length events.now < 2 ^ 64 }
+        ensures ok { OnOk result (world_of self.new ≡ run scheme (plan_of self.old.doc) (world_of self.old) (map meant events.now)) }
+        // Of a world as setup makes it, messages are delivered only where the rules hold.
+        ensures lawful { OnOk result (IsFresh self.old → Lawful scheme (plan_of self.old.doc) (start_of self.old.doc) (map meant events.now)) }
+        ensures doc { self.new.doc ≡ self.old.doc }
+        ensures count { OnOk result (self.new.count ≡ self.old.count + length events.now) }
+    {
+        self.run_each(events.as_slice())?;
         Ok(())
     }
 }

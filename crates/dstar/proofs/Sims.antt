@@ -38,11 +38,13 @@ status_in (Err e) = ends.Document e.0 e.1
 
 -- a text and a refusal
 never_both : (bytes text : List ℕ) (code place : ℕ) → SimGives bytes (Prints text) → SimGives bytes (Breaks code place) → ⊥
+unfolding SimGives
 never_both bytes text code place g h =
     let clash : ◌≡◌ {A = Result Doc (ℕ × ℕ)} (Err (code, place)) (Ok g.document) = said_once bytes (Err (code, place)) (Ok g.document) h g.reads in absurd cc
 
 -- two answers to the same bytes end alike
 pub sim_alike : (bytes : List ℕ) (r s : Reply) → SimGives bytes r → SimGives bytes s → status_of r ≡ status_of s
+unfolding SimGives
 sim_alike bytes (Prints text) (Prints other) g h = refl
 sim_alike bytes (Prints text) (Denies other) g h = absurd h
 sim_alike bytes (Prints text) (Breaks code place) g h = absurd (never_both bytes text code place g h)

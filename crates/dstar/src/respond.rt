@@ -18,6 +18,7 @@ use ds_wire::Bytes;
 use std::alloc::Global;
 
 /// The answer of `sim`.
+#[tactic(auto, unfolding(crate::specs::Sims::SimGives))]
 fn simulated(alloc: Global, bytes: &[u8]) -> Result<Reply, CommandFault>
     ensures ok { IfOk result (SimGives bytes.now) }
     ensures err { IfErr result (λ e. e ≡ NoMemory) }

@@ -17,5 +17,7 @@ returns c =
       rule = none;
       attached = c.in_ok-certs.ensures.certs scheme ∙ ap (λ (s : Scheme). attach s d.store.items d.moment d.here m.label m.own m.clear) same_flow;
       fits = c.in_ok-certs.ensures.fits;
+      bytes = c.in_ok-certs.ensures.bytes;
+      parts = c.show_parts.ensures;
       lane = has_lane (kept_of d) (map lane_of c.args.lanes.now.items) m c.number_for-lane.result c.number_for-lane.ensures none;
     }

@@ -13,5 +13,5 @@ pub returns : goal.returns
 returns c =
     IfOk-weaker c.text_of.result (λ text. text.items ≡ text_now c.happen.new.world) (λ text. IsTextOf c.args.doc text.items)
     (λ text same. is_text c.args.doc c.apart-begins.result.0 c.apart-begins.result.1 c.in_ok-world.world c.happen.new.world text.items
-    c.apart-begins.ensures.doc c.apart-begins.ensures.events c.in_ok-world.ensures.doc c.in_ok-world.ensures.start c.in_ok-happen.ensures same)
+    (subst IsDocument (sym c.apart-begins.ensures.doc) (without_is c.args.doc c.requires)) c.apart-begins.ensures.doc c.apart-begins.ensures.events c.in_ok-world.ensures.doc c.in_ok-world.ensures.start c.in_ok-happen.ensures same)
     c.text_of.ensures

@@ -1,10 +1,11 @@
-use Rattle.std.proofs.Common.{◌≡◌, ◌∙◌, length, ap, arith}
+use Rattle.std.proofs.Common.{◌≡◌, ◌∙◌, length, ap, arith, refl}
 use Rattle.std.specs.Prelude.{◌≢◌}
 use Rattle.std.proofs.lemmas.Bool.Decides.{nat_tests}
 use Rattle.ds_model.specs.Step.{Deliver}
 use Rattle.ds_plan.specs.declared.doc.Doc.{Doc}
 use Rattle.ds_world.specs.Makings.{delivers, schedule_of, tries}
-use Rattle.ds_world.proofs.Loops.{are_deliveries, part_ends, part_goes}
+use Rattle.ds_world.proofs.Loops.{begins, are_deliveries, part_ends, part_goes}
+use Rattle.ds_world.proofs.Hands.{goes_more, goes_self}
 use Rattle.ds_world.proofs.scheduling.deliveries.Goals as goal
 
 pub returns-then-len-before-clause-made : goal.returns-then-len-before-clause-made
@@ -24,5 +25,17 @@ loop-preserved c =
           (delivers d c.args.conn c.args.most (schedule_of c.args.world.now c.args.making.now)) c.loop-test.true
           (c.in_ok-attempt.ensures.made ∙ ap (λ (x : Doc). tries x (Deliver c.args.conn) (schedule_of c.loop.world c.loop.making)) c.loop.invariant.doc) differ c.loop.invariant.made;
       room = c.in_ok-attempt.ensures.room;
+      goes = goes_more c.args.world.now c.loop.world c.attempt.new.world c.args.making.now c.loop.making c.attempt.new.making c.loop.invariant.doc c.loop.invariant.goes c.in_ok-attempt.ensures.goes;
       doc = c.attempt.ensures.doc ∙ c.loop.invariant.doc;
     }
+
+pub loop-init : goal.loop-init
+loop-init c = record {
+  made = begins (delivers c.args.world.now.doc c.args.conn) (tries c.args.world.now.doc (Deliver c.args.conn)) (are_deliveries c.args.world.now.doc c.args.conn) c.args.most (schedule_of c.args.world.now c.args.making.now);
+  room = c.requires.room;
+  goes = goes_self c.args.world.now c.args.world.now c.args.making.now c.args.making.now refl refl refl;
+  doc = refl;
+}
+
+pub returns-then-len-before-clause-goes : goal.returns-then-len-before-clause-goes
+returns-then-len-before-clause-goes c = goes_more c.args.world.now c.loop.world c.attempt.new.world c.args.making.now c.loop.making c.attempt.new.making c.loop.invariant.doc c.loop.invariant.goes c.in_ok-attempt.ensures.goes

@@ -1,9 +1,10 @@
-use Rattle.std.proofs.Common.{◌≡◌, ◌∙◌, length, ap, arith}
+use Rattle.std.proofs.Common.{◌≡◌, ◌∙◌, length, ap, arith, refl}
 use Rattle.std.specs.Prelude.{◌≢◌}
 use Rattle.std.proofs.lemmas.Bool.Decides.{nat_tests}
 use Rattle.ds_plan.specs.declared.doc.Doc.{Doc}
 use Rattle.ds_world.specs.Makings.{goes_round, goes_rounds, schedule_of}
-use Rattle.ds_world.proofs.Loops.{are_rounds, part_ends, part_goes}
+use Rattle.ds_world.proofs.Loops.{begins, are_rounds, part_ends, part_goes}
+use Rattle.ds_world.proofs.Hands.{goes_more, goes_self}
 use Rattle.ds_world.proofs.scheduling.rounds.Goals as goal
 
 pub returns-then-len-before-clause-made : goal.returns-then-len-before-clause-made
@@ -23,5 +24,17 @@ loop-preserved c =
           (goes_rounds d c.args.budget c.args.most (schedule_of c.args.world.now c.args.making.now)) c.loop-test.true
           (c.in_ok-round.ensures.made ∙ ap (λ (x : Doc). goes_round x c.args.budget (schedule_of c.loop.world c.loop.making)) c.loop.invariant.doc) differ c.loop.invariant.made;
       room = c.in_ok-round.ensures.room;
+      goes = goes_more c.args.world.now c.loop.world c.round.new.world c.args.making.now c.loop.making c.round.new.making c.loop.invariant.doc c.loop.invariant.goes c.in_ok-round.ensures.goes;
       doc = c.round.ensures.doc ∙ c.loop.invariant.doc;
     }
+
+pub loop-init : goal.loop-init
+loop-init c = record {
+  made = begins (goes_rounds c.args.world.now.doc c.args.budget) (goes_round c.args.world.now.doc c.args.budget) (are_rounds c.args.world.now.doc c.args.budget) c.args.most (schedule_of c.args.world.now c.args.making.now);
+  room = c.requires.room;
+  goes = goes_self c.args.world.now c.args.world.now c.args.making.now c.args.making.now refl refl refl;
+  doc = refl;
+}
+
+pub returns-then-len-before-clause-goes : goal.returns-then-len-before-clause-goes
+returns-then-len-before-clause-goes c = goes_more c.args.world.now c.loop.world c.round.new.world c.args.making.now c.loop.making c.round.new.making c.loop.invariant.doc c.loop.invariant.goes c.in_ok-round.ensures.goes

@@ -7,5 +7,6 @@ returns-clause-ok c =
       document = c.in_ok-doc.doc;
       reads = c.in_ok-doc.ensures.answer;
       runs = c.in_ok-text.ensures;
+      lawful = c.in_ok-text.ensures.lawful;
       outside = outside_is c.args.bytes.now c.in_ok-doc.doc c.in_ok-text.ensures.events c.in_ok-doc.ensures.answer;
     }
