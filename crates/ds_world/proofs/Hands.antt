@@ -1,7 +1,7 @@
 -- Messages in hand have spellings all through a run, so what it delivers it delivers lawfully.
-use Rattle.std.proofs.Common.{◌≡◌, ℕ, zero, suc, ◌+◌, ◌<◌, List, [], ◌∷◌, ◌++◌, length, map, slice_get, Some, drop, drop-cons, get_or, refl, sym, ap, ◌∙◌, subst, arith}
+use Rattle.std.proofs.Common.{◌≡◌, ℕ, zero, suc, ◌+◌, ◌<◌, List, [], ◌∷◌, ◌++◌, length, map, slice_get, Some, take, drop, drop-cons, get_or, refl, sym, ap, ◌∙◌, subst, arith}
 use Rattle.std.specs.List.{AllByRecursion}
-use Rattle.std.proofs.lemmas.List.{append-nil, append-assoc, length-append, map-append}
+use Rattle.std.proofs.lemmas.List.{append-nil, append_assoc, length-append, map-append, map_more, take-append-drop}
 use Rattle.std.proofs.lemmas.Option.{none-some, same_Some}
 use Rattle.ds_model.specs.Plan.{Plan}
 use Rattle.ds_model.specs.World.{Host, World}
@@ -22,6 +22,7 @@ use Rattle.ds_hosts.specs.Nodes.{SpellsHands, node_of, plain_host}
 use Rattle.ds_world.specs.declared.scheduling.Making.{Making}
 use Rattle.ds_world.specs.Worlds.{WorldState, IsFresh, world_of}
 use Rattle.ds_world.specs.Hands.{AreSpelledAfter, HandsAreSpelled}
+use Rattle.ds_world.specs.Afters.{IsStoppedIn}
 use Rattle.ds_world.specs.Makings.{GoesOn}
 
 -- HOSTS
@@ -72,6 +73,22 @@ spelled_next plan w v events i e within is hands steps later =
     subst (λ es. AreSpelledAfter plan w (map meant es)) (sym whole)
     (hands, subst (λ u. AreSpelledAfter plan u (map meant (drop (suc i) events))) steps (subst (λ n. AreSpelledAfter plan v (map meant (drop n events))) next later))
 
+-- one event after the others
+pub done_next : (plan : Plan) (w v u : World) (events : List DocEvent) (i : ℕ) (e : DocEvent) → i < length events → get_or events i e ≡ e
+    → v ≡ run scheme plan w (map meant (take i events)) → u ≡ step scheme plan v (meant e) → u ≡ run scheme plan w (map meant (take (i + 1) events))
+done_next plan w v u events i e within is before steps =
+    let listed : map meant (take (i + 1) events) ≡ map meant (take i events) ++ meant e ∷ [] = map_more meant events i e within ∙ ap (λ (x : DocEvent). map meant (take i events) ++ meant x ∷ []) is in
+    steps ∙ (ap (λ x. step scheme plan x (meant e)) before
+    ∙ (sym (run_join plan w (map meant (take i events)) (meant e ∷ [])) ∙ ap (run scheme plan w) (sym listed)))
+
+pub stopped : (plan : Plan) (w v : World) (events : List DocEvent) (i : ℕ) → v ≡ run scheme plan w (map meant (take i events)) → IsStoppedIn plan (map meant events) w v
+stopped plan w v events i done = record {
+  done = map meant (take i events);
+  left = map meant (drop i events);
+  split = ap (map meant) (sym (take-append-drop i events)) ∙ map-append meant (take i events) (drop i events);
+  world = done;
+}
+
 -- SCHEDULES
 
 pub goes_self : (w v : WorldState) (m n : Making) → n.events ≡ m.events → world_of v ≡ world_of w → v.count ≡ w.count → GoesOn w m v n
@@ -100,7 +117,7 @@ goes_more w v u m n k same one two =
     let joined : map meant (one.more ++ two.more) ≡ map meant one.more ++ map meant two.more = map-append meant one.more two.more in
     record {
       more = one.more ++ two.more;
-      events = two.events ∙ (ap (λ es. es ++ two.more) one.events ∙ append-assoc m.events one.more two.more);
+      events = two.events ∙ (ap (λ es. es ++ two.more) one.events ∙ append_assoc m.events one.more two.more);
       world = two.world ∙ ((λ i. run scheme (plan_of (same i)) (one.world i) (map meant two.more))
           ∙ (sym (run_join plan start (map meant one.more) (map meant two.more)) ∙ ap (run scheme plan start) (sym joined)));
       spelled = λ hands.

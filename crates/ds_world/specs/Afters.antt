@@ -1,10 +1,10 @@
 -- What an event leaves of a world.
 use Rattle.std.specs.Prelude.{◌≡◌, ◌≢◌, ℕ, ◌+◌, ◌<◌, ◌++◌, List, Some, length, slice_get}
 use Rattle.ds_model.specs.Lists.{at}
-use Rattle.ds_model.specs.Plan.{HostPlan}
-use Rattle.ds_model.specs.World.{Conn, Host}
+use Rattle.ds_model.specs.Plan.{HostPlan, Plan}
+use Rattle.ds_model.specs.World.{Conn, Host, World}
 use Rattle.ds_model.specs.ConnectionStep.{ConnAsk, arrive}
-use Rattle.ds_model.specs.Step.{Event, perform_conn, step}
+use Rattle.ds_model.specs.Step.{Event, perform_conn, run, step}
 use Rattle.ds_setup.specs.Plans.{plan_of}
 use Rattle.ds_scheme.specs.TheScheme.{scheme}
 use Rattle.ds_exporter.specs.declared.moved.Moved.{Moved}
@@ -27,6 +27,13 @@ pub record IsAfterUnlessStill (moved : Moved) (event : Event) (before after : Wo
   pub doc : after.doc ≡ before.doc
   pub still : moved ≡ Still → after ≡ before
   pub changed : moved ≡ Changed → after.count ≡ before.count + 1
+
+-- memory ran out in the midst of these events: the first of them happened, the others didn't
+pub record IsStoppedIn (plan : Plan) (events : List Event) (before after : World) : Type 0 where
+  pub done : List Event
+  pub left : List Event
+  pub split : events ≡ done ++ left
+  pub world : after ≡ run scheme plan before done
 
 -- with a count of one more
 abbrev pub counted : (count : ℕ) → WorldState → WorldState

@@ -11,6 +11,7 @@ ghost use Rattle.ds_scheme.specs.TheScheme.{scheme};
 ghost use Rattle.ds_exporter.specs.Moving.{Moves};
 ghost use Rattle.ds_hosts.specs.Nodes.{node_of};
 ghost use Rattle.ds_world.specs.Worlds.{IsFresh, IsWorld, routes_of, world_of};
+ghost use Rattle.ds_world.specs.Afters.{IsStoppedIn};
 ghost use Rattle.ds_world.specs.Hands.{AreSpelledAfter, HandsAreSpelled};
 
 use crate::acting::happen;
@@ -136,6 +137,7 @@ impl World {
         ensures ok { OnOk result (world_of self.new ≡ run scheme (plan_of self.old.doc) (world_of self.old) (map meant events.now)) }
         ensures doc { self.new.doc ≡ self.old.doc }
         ensures count { OnOk result (self.new.count ≡ self.old.count + length events.now) }
+        ensures err { OnErr result (IsStoppedIn (plan_of self.old.doc) (map meant events.now) (world_of self.old) (world_of self.new)) }
         ensures spelled { OnOk result (AreSpelledAfter (plan_of self.old.doc) (world_of self.old) (map meant events.now)) }
     {
         for event in events {
@@ -146,7 +148,7 @@ impl World {
         Ok(())
     }
 
-    /// The events happen, one after another. `AllocError` where memory runs out; some of them happened then.
+    /// The events happen, one after another. `AllocError` where memory runs out; the first of them happened then, up to some one.
     pub fn run(&mut self, events: &EventList) -> Result<(), AllocError>
         requires more { self.old.count + length events.now < 2 ^ 64 }
         ensures ok { OnOk result (world_of self.new ≡ run scheme (plan_of self.old.doc) (world_of self.old) (map meant events.now)) }
@@ -154,6 +156,7 @@ impl World {
         ensures lawful { OnOk result (IsFresh self.old → Lawful scheme (plan_of self.old.doc) (start_of self.old.doc) (map meant events.now)) }
         ensures doc { self.new.doc ≡ self.old.doc }
         ensures count { OnOk result (self.new.count ≡ self.old.count + length events.now) }
+        ensures err { OnErr result (IsStoppedIn (plan_of self.old.doc) (map meant events.now) (world_of self.old) (world_of self.new)) }
     {
         self.run_each(events.as_slice())?;
         Ok(())
