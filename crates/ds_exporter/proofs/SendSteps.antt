@@ -55,8 +55,9 @@ module _ (e : HostState) (p stamp : ℕ) (who : Actor) (m : Message) (verdict : 
     named = λ n. n;
     numbered = λ n. n;
     hand = λ l. (
-        (may.lane.0, may.lane.1, may.lane.2, may.lane.3, record { to = may.lane.4.to; label = may.lane.4.label; range = record { certs = may.fits; payload = short } }),
-        (spelling_is (record m { certs = certs })).1 (record { to = may.parts.to; slot = may.parts.slot; label = may.parts.label; own = may.parts.own; clear = may.parts.clear; range = record { certs = may.fits; payload = short } }, may.bytes));
+      (may.lane.0, may.lane.1, may.lane.2, may.lane.3, record { to = may.lane.4.to; label = may.lane.4.label; range = record { certs = may.fits; payload = short } }),
+      (spelling_is (record m { certs = certs })).1 (record { to = may.parts.to; slot = may.parts.slot; label = may.parts.label; own = may.parts.own; clear = may.parts.clear; range = record { certs = may.fits; payload = short } }, may.bytes),
+    );
     going = λ g. (free x h).1;
   }
   keeps_by (Err rule) fails x h = record {
