@@ -54,7 +54,7 @@ spelled_end : (plan : Plan) (w : World) (events : List Event) → AreSpelledAfte
 spelled_end plan w events all = spelled_at plan w events [] (subst (AreSpelledAfter plan w) (sym (append-nil events)) all)
 
 spells : (plan : Plan) (w : World) (events : List Event) → AreSpelledAfter plan w events → Spells scheme has_spelling plan w events
-spells plan w events all before later is h x p y m there in held = spelled_at plan w before later (subst (AreSpelledAfter plan w) is all) h x there p y m in held
+spells plan w events all before later is h x p y m there at held = spelled_at plan w before later (subst (AreSpelledAfter plan w) is all) h x there p y m at held
 
 -- of a world as setup makes it
 pub is_lawful : (w : WorldState) (events : List Event) → AreSpelledAfter (plan_of w.doc) (world_of w) events → IsFresh w
