@@ -1,5 +1,5 @@
 -- Messages in hand have spellings all through a run, so what it delivers it delivers lawfully.
-use Rattle.std.proofs.Common.{◌≡◌, ℕ, zero, suc, ◌+◌, ◌<◌, List, [], ◌∷◌, ◌++◌, length, map, slice_get, Some, take, drop, drop-cons, get_or, refl, sym, ap, ◌∙◌, subst, arith}
+use Rattle.std.proofs.Common.{◌≡◌, ℕ, zero, suc, ◌+◌, ◌<◌, List, [], ◌∷◌, ◌++◌, length, map, slice_get, Some, take, drop, get_or, refl, sym, ap, ◌∙◌, subst, arith}
 use Rattle.std.specs.List.{AllByRecursion}
 use Rattle.std.proofs.lemmas.List.{append-nil, append_assoc, length-append, map-append, map_more, take-append-drop}
 use Rattle.std.proofs.lemmas.Option.{none-some, same_Some}
@@ -64,22 +64,21 @@ is_lawful w events all fresh =
     delivered (plan_of w.doc) (start_of w.doc) events fits.lanes fits.start
     (spells (plan_of w.doc) (start_of w.doc) events (subst (λ v. AreSpelledAfter (plan_of w.doc) v events) fresh.start all))
 
--- one event before the others
-pub spelled_next : (plan : Plan) (w v : World) (events : List DocEvent) (i : ℕ) (e : DocEvent) → i < length events → get_or events i e ≡ e
-    → HandsAreSpelled w → v ≡ step scheme plan w (meant e) → AreSpelledAfter plan v (map meant (drop (i + 1) events)) → AreSpelledAfter plan w (map meant (drop i events))
-spelled_next plan w v events i e within is hands steps later =
-    let whole : drop i events ≡ e ∷ drop (suc i) events = drop-cons events i e within ∙ ap (λ x. x ∷ drop (suc i) events) is in
-    let next : i + 1 ≡ suc i = omega arith in
-    subst (λ es. AreSpelledAfter plan w (map meant es)) (sym whole)
-    (hands, subst (λ u. AreSpelledAfter plan u (map meant (drop (suc i) events))) steps (subst (λ n. AreSpelledAfter plan v (map meant (drop n events))) next later))
-
 -- one event after the others
-pub done_next : (plan : Plan) (w v u : World) (events : List DocEvent) (i : ℕ) (e : DocEvent) → i < length events → get_or events i e ≡ e
+pub ran_next : (plan : Plan) (w v u : World) (events : List DocEvent) (i : ℕ) (e : DocEvent) → i < length events → get_or events i e ≡ e
     → v ≡ run scheme plan w (map meant (take i events)) → u ≡ step scheme plan v (meant e) → u ≡ run scheme plan w (map meant (take (i + 1) events))
-done_next plan w v u events i e within is before steps =
+ran_next plan w v u events i e within is before steps =
     let listed : map meant (take (i + 1) events) ≡ map meant (take i events) ++ meant e ∷ [] = map_more meant events i e within ∙ ap (λ (x : DocEvent). map meant (take i events) ++ meant x ∷ []) is in
     steps ∙ (ap (λ x. step scheme plan x (meant e)) before
     ∙ (sym (run_join plan w (map meant (take i events)) (meant e ∷ [])) ∙ ap (run scheme plan w) (sym listed)))
+
+pub spelled_next : (plan : Plan) (w v u : World) (events : List DocEvent) (i : ℕ) (e : DocEvent) → i < length events → get_or events i e ≡ e
+    → v ≡ run scheme plan w (map meant (take i events)) → u ≡ step scheme plan v (meant e) → AreSpelledAfter plan w (map meant (take i events)) → HandsAreSpelled u
+    → AreSpelledAfter plan w (map meant (take (i + 1) events))
+spelled_next plan w v u events i e within is before steps so_far hands =
+    let listed : map meant (take (i + 1) events) ≡ map meant (take i events) ++ meant e ∷ [] = map_more meant events i e within ∙ ap (λ (x : DocEvent). map meant (take i events) ++ meant x ∷ []) is in
+    let last : HandsAreSpelled (step scheme plan (run scheme plan w (map meant (take i events))) (meant e)) = subst HandsAreSpelled (steps ∙ ap (λ x. step scheme plan x (meant e)) before) hands in
+    subst (AreSpelledAfter plan w) (sym listed) (spelled_join plan w (map meant (take i events)) (meant e ∷ []) so_far (spelled_end plan w (map meant (take i events)) so_far, last))
 
 pub stopped : (plan : Plan) (w v : World) (events : List DocEvent) (i : ℕ) → v ≡ run scheme plan w (map meant (take i events)) → IsStoppedIn plan (map meant events) w v
 stopped plan w v events i done = record {

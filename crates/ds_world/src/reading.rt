@@ -113,7 +113,8 @@ pub(crate) fn part_of(
 pub(crate) fn hands_of(nodes: &NodeList)
     ensures { AllByRecursion (λ n. SpellsHands (plain_host (node_of n))) nodes.now.items }
 {
-    for node in nodes.as_slice() {
+    let all = nodes.as_slice();
+    for node in all {
         node.hands();
     }
 }

@@ -140,11 +140,11 @@ impl World {
         ensures err { OnErr result (IsStoppedIn (plan_of self.old.doc) (map meant events.now) (world_of self.old) (world_of self.new)) }
         ensures spelled { OnOk result (AreSpelledAfter (plan_of self.old.doc) (world_of self.old) (map meant events.now)) }
     {
-        for event in events {
-            self.hands();
-            self.apply(event)?;
-        }
         self.hands();
+        for event in events {
+            self.apply(event)?;
+            self.hands();
+        }
         Ok(())
     }
 
