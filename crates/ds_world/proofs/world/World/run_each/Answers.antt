@@ -28,7 +28,7 @@ loop-event-preserved c =
     record {
       ran = ran_next plan w v (world_of c.apply.new.self) c.args.events.now c.loop-event.event-index c.event-item.result c.loop-event-test.true (sym c.event-item.is) c.loop-event.invariant.ran steps;
       spelled = spelled_next plan w v (world_of c.apply.new.self) c.args.events.now c.loop-event.event-index c.event-item.result c.loop-event-test.true (sym c.event-item.is) c.loop-event.invariant.ran steps
-          c.loop-event.invariant.spelled c.hands-2.ensures;
+          c.loop-event.invariant.spelled c.hands-in-loop-event.ensures;
       doc = c.apply.ensures.doc ∙ c.loop-event.invariant.doc;
       count = omega (arith, c.in_ok-apply.ensures.count, c.loop-event.invariant.count);
     }
