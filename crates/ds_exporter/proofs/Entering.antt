@@ -19,8 +19,11 @@ use Rattle.ds_lane.specs.Workers.{dropped_entry, framed_entry}
 use Rattle.ds_desk.specs.Desks.{entered, entry_of}
 use Rattle.ds_inlet.specs.Connections.{Connection}
 use Rattle.ds_inlet.specs.Inlets.{CountedLane, entry_of as inlet_entry}
-use Rattle.ds_exporter.specs.HostStates.{HostBox, HostLane, HostState}
+use Rattle.ds_exporter.specs.HostStates.{HostBox, HostLane, HostProcess, HostState}
+use Rattle.ds_exporter.specs.declared.moved.Moved.{Moved}
+use Rattle.ds_exporter.specs.declared.moved.Moved.TheVariants.{Changed, Still}
 use Rattle.ds_exporter.specs.Accepting.{IsCounted, counted}
+use Rattle.ds_exporter.specs.Stepping.{Steps, proc_actor}
 use Rattle.ds_exporter.specs.Checking.{checked_as, with_checked}
 use Rattle.ds_exporter.specs.Conditions.{IsFit, lane_actor}
 use Rattle.ds_exporter.specs.Lifting.{lifted_from, lifted_lane}
@@ -154,3 +157,19 @@ module _ (stamp place : ℕ) (e : HostState) where
   enters_put conns boxes who p m puts =
       let one = enters_box stamp who p (put_in stamp who m) e (λ b h. goes_one (IsBoxEntryOf stamp who) b.mailbox.history (box_entry stamp who (put_entry b.mailbox.room m b.mailbox.waiting)) (refl, refl)) in
       record { desk = one.desk; boxes = subst (AtEachPlace (BoxGoesOn stamp who) e.boxes) (sym puts) one.boxes; lanes = one.lanes; inlets = one.inlets }
+
+-- PROCESSES
+
+-- nothing but processes changed
+pub enters_procs : (stamp : ℕ) (who : Actor) (e new : HostState) (procs : List HostProcess) → new ≡ record e { procs = procs } → Enters stamp who e new
+enters_procs stamp who e new procs is =
+    let none = enters_nothing stamp who e in
+    subst (Enters stamp who e) (sym is) (record { desk = none.desk; boxes = none.boxes; lanes = none.lanes; inlets = none.inlets })
+
+pub steps_enter : (moved : Moved) (stamp p : ℕ) (e new : HostState) → Steps moved stamp p e new → Enters stamp (proc_actor e.host p) e new
+steps_enter Changed stamp p e new s = s.entered
+steps_enter Still stamp p e new s = enters_same stamp (proc_actor e.host p) e new s.0
+
+-- the same of a host that is equal to the one before
+pub enters_from : (stamp : ℕ) (who : Actor) (e middle new : HostState) → middle ≡ e → Enters stamp who middle new → Enters stamp who e new
+enters_from stamp who e middle new same enters = subst (λ (s : HostState). Enters stamp who s new) same enters
