@@ -179,7 +179,7 @@ module _ (e : HostState) (p l : ℕ) (m : Message) (within : p < length e.procs)
     entered_queued : host ≡ e.host → Enters stamp (proc_actor e.host p) e queued
     entered_queued is =
         let more = enters_lane stamp who l (admitted_lane stamp who m) e
-            (λ y h. (goes_one (IsLaneEntryOf stamp who) y.lane.history (entry_of stamp who (admit_entry y.lane.room (sent_by p m) y.lane.waiting)) (refl, refl), goes_nowhere (IsWorkerEntryAt stamp) y.worker.entries)) in
+        (λ y h. (goes_one (IsLaneEntryOf stamp who) y.lane.history (entry_of stamp who (admit_entry y.lane.room (sent_by p m) y.lane.waiting)) (refl, refl), goes_nowhere (IsWorkerEntryAt stamp) y.worker.entries)) in
         subst (λ (h : ℕ). Enters stamp (proc_actor h p) e queued) is (record { desk = more.desk; boxes = more.boxes; lanes = more.lanes; inlets = more.inlets })
 
     pub stepped_queue : host ≡ e.host → IsBefore stamp e → IsStepped stamp p e queued
