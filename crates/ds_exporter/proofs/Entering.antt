@@ -16,7 +16,7 @@ use Rattle.ds_box.specs.Boxes.{entry_of as box_entry}
 use Rattle.ds_lane.specs.declared.batch.Waiting.{Waiting}
 use Rattle.ds_lane.specs.Lanes.{entry_of as lane_entry, lift_entry}
 use Rattle.ds_lane.specs.Workers.{dropped_entry, framed_entry}
-use Rattle.ds_desk.specs.Desks.{entered, entry_of}
+use Rattle.ds_desk.specs.Desks.{DeskView, entered, entry_of}
 use Rattle.ds_inlet.specs.Connections.{Connection}
 use Rattle.ds_inlet.specs.Inlets.{CountedLane, entry_of as inlet_entry}
 use Rattle.ds_exporter.specs.HostStates.{HostBox, HostLane, HostProcess, HostState}
@@ -94,6 +94,12 @@ module _ (stamp : ℕ) (who : Actor) where
       let none = enters_nothing e in
       record { desk = none.desk; boxes = none.boxes; lanes = none.lanes; inlets = each_at (InletGoesOn stamp who) inlet_same p f e.inlets goes }
 
+-- at the desk, with other connections
+pub enters_at_desk : (stamp : ℕ) (who : Actor) (entry : DeskEntry) (e : HostState) (desk : DeskView) (conns : List Connection) → desk ≡ entered stamp who entry e.desk → Enters stamp who e (record e { desk = desk; conns = conns })
+enters_at_desk stamp who entry e desk conns is =
+    let more = enters_desk stamp who entry e in
+    record { desk = subst (λ (k : DeskView). GoesOnBy (IsDeskEntryOf stamp who) e.desk.history k.history) (sym is) more.desk; boxes = more.boxes; lanes = more.lanes; inlets = more.inlets }
+
 -- LANES
 
 module _ (stamp : ℕ) (who : Actor) where
@@ -169,7 +175,3 @@ enters_procs stamp who e new procs is =
 pub steps_enter : (moved : Moved) (stamp p : ℕ) (e new : HostState) → Steps moved stamp p e new → Enters stamp (proc_actor e.host p) e new
 steps_enter Changed stamp p e new s = s.entered
 steps_enter Still stamp p e new s = enters_same stamp (proc_actor e.host p) e new s.0
-
--- the same of a host that is equal to the one before
-pub enters_from : (stamp : ℕ) (who : Actor) (e middle new : HostState) → middle ≡ e → Enters stamp who middle new → Enters stamp who e new
-enters_from stamp who e middle new same enters = subst (λ (s : HostState). Enters stamp who s new) same enters
