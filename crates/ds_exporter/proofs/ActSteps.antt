@@ -1,5 +1,5 @@
 -- A process of which the desk did a public act.
-use Rattle.std.proofs.Common.{◌≡◌, ℕ, suc, ◌+◌, ◌*◌, ◌<◌, ◌≤◌, Bool, true, false, ◌&&◌, ◌||◌, cond, List, [], ◌∷◌, ◌++◌, Option, Some, None, length, slice_get, refl, sym, ap, ◌∙◌, arith}
+use Rattle.std.proofs.Common.{◌≡◌, ℕ, suc, ◌+◌, ◌*◌, ◌<◌, ◌≤◌, Bool, true, false, ◌&&◌, ◌||◌, cond, List, [], ◌∷◌, ◌++◌, Option, Some, None, length, slice_get, refl, sym, ap, ◌∙◌, subst, arith}
 use Rattle.std.specs.Prelude.{◌^◌, All, nat_le, nat_lt}
 use Rattle.std.proofs.lemmas.Bool.Decides.{nat_tests}
 use Rattle.std.proofs.lemmas.List.Elements.{All-push, recursion_from_All}
@@ -33,7 +33,9 @@ use Rattle.ds_exporter.specs.PlainHosts.{site_of, plain_process}
 use Rattle.ds_exporter.specs.Conditions.{AreNumbered, IsFit, IsNumbered}
 use Rattle.ds_exporter.specs.Acting.{JoinsAt, MapsSo, answer_of, delegated_proc, entry_of, imported_proc, mapped_proc}
 use Rattle.ds_exporter.specs.Stamping.{IsBefore, IsUpTo, last_of_desk}
-use Rattle.ds_exporter.specs.Stepping.{Asks, IsFree, IsStepped, always, refused_proc}
+use Rattle.ds_exporter.specs.Entering.{Enters}
+use Rattle.ds_exporter.specs.Stepping.{Asks, IsFree, IsStepped, always, proc_actor, refused_proc}
+use Rattle.ds_exporter.proofs.Entering.{enters_desk}
 use Rattle.ds_exporter.proofs.Places.{all_get, there_is}
 use Rattle.ds_exporter.proofs.OneProc.{Keeps, with_proc, fits_proc}
 use Rattle.ds_exporter.proofs.OneStep.{becomes, host_by, moved_on, no_hand_more, performs, site_proc}
@@ -63,8 +65,13 @@ module _ (e : HostState) (p stamp : ℕ) (who : Actor) (act : Act) (reg host : �
       let more = below_entry e stamp who (entry_of e act) b last in
       record { desk = more.desk; boxes = more.boxes; lanes = more.lanes; inlets = more.inlets }
 
-  pub stepped_done : Asks p e (always (PublicAct act reg host)) → IsBefore stamp e → last_of_desk (entered stamp who (entry_of e act) e.desk) ≤ stamp → IsStepped stamp p e done
-  stepped_done asks below last = there_is (IsStepped stamp p e done) e.procs p within (λ x h. record {
+  entered_done : who ≡ proc_actor e.host p → Enters stamp (proc_actor e.host p) e done
+  entered_done is =
+      let more = enters_desk stamp who (entry_of e act) e in
+      subst (λ (a : Actor). Enters stamp a e done) is (record { desk = more.desk; boxes = more.boxes; lanes = more.lanes; inlets = more.inlets })
+
+  pub stepped_done : who ≡ proc_actor e.host p → Asks p e (always (PublicAct act reg host)) → IsBefore stamp e → last_of_desk (entered stamp who (entry_of e act) e.desk) ≤ stamp → IsStepped stamp p e done
+  stepped_done acts asks below last = there_is (IsStepped stamp p e done) e.procs p within (λ x h. record {
     host = host_by acted p f (act_after_reply reg host act (answer_of e act)) (λ y there. (ends y there).tells)
         ∙ (ap (λ (a : Host). record a { procs = at p (act_after_reply reg host act (answer_of e act)) a.procs }) (host_entry e stamp who (entry_of e act) fit)
         ∙ sym (performs e p x h (always (PublicAct act reg host)) asks));
@@ -73,6 +80,7 @@ module _ (e : HostState) (p stamp : ℕ) (who : Actor) (act : Act) (reg host : �
     conns = refl;
     named = λ link place. conn_entry e stamp who (entry_of e act) fit link place;
     stamps = below_done below last;
+    entered = entered_done acts;
   })
 
 -- THE PROCESS

@@ -1,6 +1,7 @@
 pub mod Places
 pub mod Tables
 pub mod Stamps
+pub mod Entering
 pub mod OneConn
 pub mod Lifts
 pub mod OneLane

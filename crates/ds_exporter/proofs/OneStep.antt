@@ -15,7 +15,8 @@ use Rattle.ds_exporter.specs.HostStates.{HostProcess, HostState}
 use Rattle.ds_exporter.specs.PlainHosts.{host_of, site_of, plain_process}
 use Rattle.ds_exporter.specs.Conditions.{IsFit, HasMore}
 use Rattle.ds_exporter.specs.Stamping.{IsBefore, IsUpTo}
-use Rattle.ds_exporter.specs.Stepping.{Asks, IsFree, IsStepped, Steps, always, next_host, refused_proc}
+use Rattle.ds_exporter.specs.Stepping.{Asks, IsFree, IsStepped, Steps, always, next_host, proc_actor, refused_proc}
+use Rattle.ds_exporter.proofs.Entering.{enters_nothing}
 use Rattle.ds_exporter.proofs.Places.{length_at, map_over_at, some_is, there_is}
 use Rattle.ds_exporter.proofs.Stamps.{below_more}
 use Rattle.ds_exporter.proofs.OneProc.{with_proc, fits_proc}
@@ -105,6 +106,9 @@ module _ (e : HostState) (p : ℕ) (rule : Rule) (within : p < length e.procs) (
     conns = refl;
     named = λ link place. refl;
     stamps = below_proc stamp e (at p (refused_proc rule) e.procs) below;
+    entered =
+        let none = enters_nothing stamp (proc_actor e.host p) e in
+        record { desk = none.desk; boxes = none.boxes; lanes = none.lanes; inlets = none.inlets };
   })
 
 -- NOTHING TO DO

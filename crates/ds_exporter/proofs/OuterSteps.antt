@@ -33,7 +33,8 @@ use Rattle.ds_exporter.specs.Asking.{AsksSo, IsFreeFor, IsInRange, IsSameUnless,
 use Rattle.ds_exporter.specs.Running.{inside_of}
 use Rattle.ds_exporter.specs.Sites.{box_site, fixed_in}
 use Rattle.ds_exporter.specs.Stamping.{IsBefore}
-use Rattle.ds_exporter.specs.Stepping.{Asks, IsFree, IsStepped, always, next_host, put_ask}
+use Rattle.ds_exporter.specs.Stepping.{Asks, IsFree, IsStepped, always, next_host, proc_actor, put_ask}
+use Rattle.ds_exporter.proofs.Entering.{enters_nothing}
 use Rattle.ds_exporter.proofs.Places.{all_get}
 use Rattle.ds_exporter.proofs.OneProc.{with_proc, fits_proc}
 use Rattle.ds_exporter.proofs.OneStep.{becomes, below_proc, host_by, moved_on, no_hand_more, only, performs, site_proc}
@@ -128,6 +129,9 @@ module _ (e : HostState) (p : ℕ) (x : HostProcess) (procs : List HostProcess) 
     conns = refl;
     named = λ link place. refl;
     stamps = below_proc stamp e (at p (λ _. now) e.procs) below;
+    entered =
+        let none = enters_nothing stamp (proc_actor e.host p) e in
+        record { desk = none.desk; boxes = none.boxes; lanes = none.lanes; inlets = none.inlets };
   })
 
   pub same_unless : IsSameUnless p e asked_host a

@@ -34,7 +34,9 @@ use Rattle.ds_exporter.specs.Conditions.{IsFit, HandHasLane, HasLane, HasMore}
 use Rattle.ds_exporter.specs.Sites.{cert_of, fixed_in}
 use Rattle.ds_exporter.specs.Queueing.{HandAsks, IsOnAt, IsSentOn, LeadsToLane, admitted_lane, is_lane_for, queued_proc}
 use Rattle.ds_exporter.specs.Stamping.{IsBefore, IsLaneBefore, IsUpTo}
+use Rattle.ds_exporter.specs.Entering.{Enters, IsLaneEntryOf, IsWorkerEntryAt}
 use Rattle.ds_exporter.specs.Stepping.{Asks, IsStepped, admit_ask, proc_actor}
+use Rattle.ds_exporter.proofs.Entering.{enters_lane, goes_nowhere, goes_one}
 use Rattle.ds_exporter.proofs.Places.{all_get, map_kept_at, map_over_at, there_is}
 use Rattle.ds_exporter.proofs.Stamps.{lane_more}
 use Rattle.ds_exporter.proofs.Queues.{log_admitted, position_seen, queue_admitted}
@@ -174,8 +176,14 @@ module _ (e : HostState) (p l : ℕ) (m : Message) (within : p < length e.procs)
     workers_after : map plain_worker (at l (admitted_lane stamp who m) e.lanes) ≡ (host_of e).workers
     workers_after = map_kept_at plain_worker l (admitted_lane stamp who m) e.lanes (λ y h. refl)
 
-    pub stepped_queue : IsBefore stamp e → IsStepped stamp p e queued
-    stepped_queue below = there_is (IsStepped stamp p e queued) e.procs p within (λ x h.
+    entered_queued : host ≡ e.host → Enters stamp (proc_actor e.host p) e queued
+    entered_queued is =
+        let more = enters_lane stamp who l (admitted_lane stamp who m) e
+        (λ y h. (goes_one (IsLaneEntryOf stamp who) y.lane.history (entry_of stamp who (admit_entry y.lane.room (sent_by p m) y.lane.waiting)) (refl, refl), goes_nowhere (IsWorkerEntryAt stamp) y.worker.entries)) in
+        subst (λ (h : ℕ). Enters stamp (proc_actor h p) e queued) is (record { desk = more.desk; boxes = more.boxes; lanes = more.lanes; inlets = more.inlets })
+
+    pub stepped_queue : host ≡ e.host → IsBefore stamp e → IsStepped stamp p e queued
+    stepped_queue acts below = there_is (IsStepped stamp p e queued) e.procs p within (λ x h.
         let next : Process = noted notes.Sent (record (seen e p x h) { hand = None }) in
         let queues = queues_after in
         let workers = workers_after in
@@ -189,6 +197,7 @@ module _ (e : HostState) (p l : ℕ) (m : Message) (within : p < length e.procs)
           conns = refl;
           named = λ link place. refl;
           stamps = below_queued below;
+          entered = entered_queued acts;
         })
 
 -- with a message in hand a process is before its script's end

@@ -1,5 +1,5 @@
 -- A process of which the desk judges a message to another host.
-use Rattle.std.proofs.Common.{◌≡◌, ℕ, ◌<◌, ◌≤◌, List, Option, Some, None, length, slice_get, option_map, refl, sym, ap, ◌∙◌}
+use Rattle.std.proofs.Common.{◌≡◌, ℕ, ◌<◌, ◌≤◌, List, Option, Some, None, length, slice_get, option_map, refl, sym, ap, ◌∙◌, subst}
 use Rattle.std.specs.Prelude.{Result, Ok, Err}
 use Rattle.std.proofs.lemmas.Option.{slice_get-map}
 use Rattle.ds_label.specs.declared.rule.Rule.{Rule}
@@ -19,7 +19,9 @@ use Rattle.ds_exporter.specs.PlainHosts.{host_of, site_of, plain_process}
 use Rattle.ds_exporter.specs.Conditions.{IsFit}
 use Rattle.ds_exporter.specs.Sending.{IsSendVerdict, judged_proc, send_rule}
 use Rattle.ds_exporter.specs.Stamping.{IsBefore, IsUpTo, last_of_desk}
-use Rattle.ds_exporter.specs.Stepping.{Asks, IsFree, IsStepped, always, refused_proc}
+use Rattle.ds_exporter.specs.Entering.{Enters}
+use Rattle.ds_exporter.specs.Stepping.{Asks, IsFree, IsStepped, always, proc_actor, refused_proc}
+use Rattle.ds_exporter.proofs.Entering.{enters_desk}
 use Rattle.ds_exporter.proofs.Places.{there_is}
 use Rattle.ds_exporter.proofs.OneProc.{Keeps, with_proc, fits_proc}
 use Rattle.ds_exporter.proofs.OneStep.{becomes, host_by, moved_on, no_hand_more, performs, site_proc}
@@ -90,8 +92,13 @@ module _ (e : HostState) (p stamp : ℕ) (who : Actor) (m : Message) (verdict : 
       let more = below_entry e stamp who Looked b last in
       record { desk = more.desk; boxes = more.boxes; lanes = more.lanes; inlets = more.inlets }
 
-  pub stepped_judged : Asks p e (always (AsksJudgement m)) → IsBefore stamp e → last_of_desk (entered stamp who Looked e.desk) ≤ stamp → IsStepped stamp p e sent_judged
-  stepped_judged asks below last = there_is (IsStepped stamp p e sent_judged) e.procs p within (λ x h. record {
+  entered_judged : who ≡ proc_actor e.host p → Enters stamp (proc_actor e.host p) e sent_judged
+  entered_judged is =
+      let more = enters_desk stamp who Looked e in
+      subst (λ (a : Actor). Enters stamp a e sent_judged) is (record { desk = more.desk; boxes = more.boxes; lanes = more.lanes; inlets = more.inlets })
+
+  pub stepped_judged : who ≡ proc_actor e.host p → Asks p e (always (AsksJudgement m)) → IsBefore stamp e → last_of_desk (entered stamp who Looked e.desk) ≤ stamp → IsStepped stamp p e sent_judged
+  stepped_judged acts asks below last = there_is (IsStepped stamp p e sent_judged) e.procs p within (λ x h. record {
     host = host_by with_look p (judged_proc m verdict) (judged_after_reply m (attached scheme (site_of e) e.desk.desk m) (judged scheme (site_of e) e.desk.desk m)) (λ y there. replies verdict says y)
         ∙ sym (performs e p x h (always (AsksJudgement m)) asks);
     changed = changes verdict x h;
@@ -99,4 +106,5 @@ module _ (e : HostState) (p stamp : ℕ) (who : Actor) (m : Message) (verdict : 
     conns = refl;
     named = λ link place. refl;
     stamps = below_judged below last;
+    entered = entered_judged acts;
   })

@@ -22,8 +22,10 @@ use Rattle.ds_exporter.specs.HostStates.{HostBox, HostProcess, HostState}
 use Rattle.ds_exporter.specs.PlainHosts.{host_of, plain_box, plain_entry, plain_mail, plain_process}
 use Rattle.ds_exporter.specs.Conditions.{IsBoxNamed, IsEntryNamed, IsFit, IsMailNamed, IsNumbered, IsProcNamed}
 use Rattle.ds_exporter.specs.Stamping.{IsBefore, IsBoxBefore, IsUpTo}
-use Rattle.ds_exporter.specs.Stepping.{Asks, IsFree, IsStepped, always, next_host}
+use Rattle.ds_exporter.specs.Entering.{Enters, IsBoxEntryOf}
+use Rattle.ds_exporter.specs.Stepping.{Asks, IsFree, IsStepped, always, next_host, proc_actor}
 use Rattle.ds_exporter.specs.Taking.{TakesSo, taken_box, took_proc}
+use Rattle.ds_exporter.proofs.Entering.{enters_box, goes_one}
 use Rattle.ds_exporter.proofs.Places.{all_get, map_over_at, some_is, there_is}
 use Rattle.ds_exporter.proofs.BoxPuts.{Keeps, below_box, fits_box, plan_box, with_box}
 use Rattle.ds_exporter.proofs.OneProc.{with_proc, fits_proc}
@@ -136,8 +138,13 @@ module _ (e : HostState) (p i stamp reg slot : ℕ) (who : Actor) (m : LocalMess
       (λ b k. (takes x h).becomes e.desk.here e.desk.desk.rows table (all_get (IsProcNamed e.desk.here e.desk.desk.rows) e.procs p x fit.named_procs h) mail_named
       ∙ ap (λ (o : Option (Mail Category)). taken_after_reply reg slot o (plain_process e.desk.here e.desk.desk.rows x)) (sym (oldest_here e i b k m (first b k))))
 
-  pub stepped_take : Asks p e (always (TakeFrom i reg slot)) → IsBefore stamp e → IsStepped stamp p e taken
-  stepped_take asks below = there_is (IsStepped stamp p e taken) e.procs p within (λ x h. record {
+  entered_taken : who ≡ proc_actor e.host p → Enters stamp (proc_actor e.host p) e taken
+  entered_taken is =
+      let more = enters_box stamp who i (taken_box stamp who) e (λ b h. goes_one (IsBoxEntryOf stamp who) b.mailbox.history (entry_of stamp who TookOut) (refl, refl)) in
+      subst (λ (a : Actor). Enters stamp a e taken) is (record { desk = more.desk; boxes = more.boxes; lanes = more.lanes; inlets = more.inlets })
+
+  pub stepped_take : who ≡ proc_actor e.host p → Asks p e (always (TakeFrom i reg slot)) → IsBefore stamp e → IsStepped stamp p e taken
+  stepped_take acts asks below = there_is (IsStepped stamp p e taken) e.procs p within (λ x h. record {
     host = host_by with_taken p (took_proc reg slot m) (taken_after_reply reg slot (oldest_in (slice_get (host_of e).boxes i))) proc_taken
         ∙ (ap (λ (boxes : List Mailbox). record (host_of e) { procs = at p (taken_after_reply reg slot (oldest_in (slice_get (host_of e).boxes i))) (host_of e).procs; boxes = boxes }) boxes_taken
         ∙ sym (performs e p x h (always (TakeFrom i reg slot)) asks));
@@ -146,4 +153,5 @@ module _ (e : HostState) (p i stamp reg slot : ℕ) (who : Actor) (m : LocalMess
     conns = refl;
     named = λ link place. refl;
     stamps = below_taken below;
+    entered = entered_taken acts;
   })

@@ -3,6 +3,7 @@ pub mod Merging
 pub mod PlainHosts
 pub mod Conditions
 pub mod Stamping
+pub mod Entering
 pub mod Moving
 pub mod Lifting
 pub mod Checking

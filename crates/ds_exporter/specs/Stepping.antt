@@ -19,6 +19,7 @@ use Rattle.ds_exporter.specs.declared.parts.ProcPart.{ProcPart}
 use Rattle.ds_exporter.specs.HostStates.{HostProcess, HostState}
 use Rattle.ds_exporter.specs.PlainHosts.{conn_at, host_of, plain_process, site_of}
 use Rattle.ds_exporter.specs.Stamping.{IsUpTo}
+use Rattle.ds_exporter.specs.Entering.{Enters}
 
 abbrev pub proc_actor : (host place : ℕ) → Actor
 proc_actor host place = record { kind = kinds.Proc; host = host; index = place }
@@ -69,7 +70,8 @@ refused_proc rule x = record x { process = finished_process (Some (notes.Refused
 abbrev pub next_host : (place : ℕ) → HostState → Host
 next_host p e = step_proc scheme (site_of e) (host_of e) p (slice_get (host_of e).procs p)
 
--- The host is what the plain world makes of it, and another one; what setup fixed and the connections are as they were.
+-- The host is what the plain world makes of it, and another one; what setup fixed and the connections are as they were, and the
+-- histories go on by the process's entries alone.
 pub record IsStepped (stamp p : ℕ) (old new : HostState) : Type 0 where
   pub host : host_of new ≡ next_host p old
   pub changed : host_of new ≢ host_of old
@@ -77,6 +79,7 @@ pub record IsStepped (stamp p : ℕ) (old new : HostState) : Type 0 where
   pub conns : new.conns ≡ old.conns
   pub named : (link : List ℕ) (place : ℕ) → conn_at link place new ≡ conn_at link place old
   pub stamps : IsUpTo stamp new
+  pub entered : Enters stamp (proc_actor old.host p) old new
 
 -- so it is, or there was nothing to do
 abbrev pub Steps : Moved → (stamp p : ℕ) → (old new : HostState) → Type 0

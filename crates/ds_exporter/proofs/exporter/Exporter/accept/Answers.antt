@@ -7,6 +7,7 @@ use Rattle.ds_exporter.specs.PlainHosts.{arrived_at, conn_at, ends_of, host_of, 
 use Rattle.ds_exporter.specs.Moving.{Moves}
 use Rattle.ds_exporter.proofs.Ends.{arrived_all, below_all, fits_all, moves_all, others_all, site_all, still_all}
 use Rattle.ds_exporter.proofs.IfDone.{still_is}
+use Rattle.ds_exporter.proofs.Entering.{enters_counted}
 use Rattle.ds_exporter.proofs.exporter.Exporter.accept.Goals as goal
 
 pub invariant_of-self-2 : goal.invariant_of-self-2
@@ -52,3 +53,8 @@ returns-clause-stamps c =
     let within = rw (← c.self.view_is) at c.requires.there in
     let below = rw (← c.self.view_is) at c.requires.later in
     below_all (state_of c.self.inside.parts) c.args.conn c.args.stamp c.in_ok-moved.moved (map connection_of c.accept_at.new.conns.items) (map inlet_of c.accept_at.new.inlets.items) within (λ k h. c.in_ok-moved.ensures.ok k h) below
+
+pub returns-clause-entered : goal.returns-clause-entered
+returns-clause-entered c =
+    rw (← c.self.view_is)
+    (λ k h. enters_counted c.args.stamp c.args.conn (state_of c.self.inside.parts) (map connection_of c.accept_at.new.conns.items) (map inlet_of c.accept_at.new.inlets.items) k.who (c.in_ok-moved.ensures.ok k h).2.counts)

@@ -1,4 +1,4 @@
-use Rattle.std.proofs.Common.{◌≡◌, length, map, ap, ◌∙◌}
+use Rattle.std.proofs.Common.{◌≡◌, length, map, ap, ◌∙◌, refl}
 use Rattle.ds_map.proofs.Sets.{true_false}
 use Rattle.ds_script.specs.declared.actor.Actor.{Actor}
 use Rattle.ds_model.specs.Lists.{at}
@@ -55,4 +55,4 @@ returns-clause-ok c =
     let who : Actor = proc_actor c.self.inside.parts.host c.args.index in
     let procs : map process_of c.queued_at.new.procs.items ≡ at c.args.index queued_proc e.procs = c.queued_at.ensures ∙ ap (at c.args.index queued_proc) c.in_ok-reserve_proc.ensures.same in
     let lanes : map lane_of c.admit_at.new.lanes.items ≡ at c.args.lane (admitted_lane c.args.stamp who c.args.message) e.lanes = c.admit_at.ensures ∙ ap (at c.args.lane (admitted_lane c.args.stamp who c.args.message)) c.in_ok-reserve_lane.ensures.same in
-    rw (procs, lanes, ← c.self.view_is) (stepped_queue e c.args.index c.args.lane c.args.message within (λ x k. some x k) (λ x k. asks x k) c.args.stamp c.self.inside.parts.host below)
+    rw (procs, lanes, ← c.self.view_is) (stepped_queue e c.args.index c.args.lane c.args.message within (λ x k. some x k) (λ x k. asks x k) c.args.stamp c.self.inside.parts.host refl below)

@@ -9,6 +9,11 @@ use Rattle.ds_exporter.specs.PlainHosts.{host_of, site_of}
 use Rattle.ds_exporter.specs.Checking.{lane_rule, with_checked}
 use Rattle.ds_exporter.specs.Stamping.{last_of_desk}
 use Rattle.ds_exporter.proofs.CheckedHosts.{fits_checked, plan_checked, below_with_checked, checked_host_is, checked_host_moved}
+use Rattle.ds_script.specs.declared.actor.Actor.{Actor}
+use Rattle.ds_exporter.specs.Conditions.{lane_actor}
+use Rattle.ds_exporter.specs.Entering.{Enters}
+use Rattle.ds_exporter.proofs.Places.{there_is}
+use Rattle.ds_exporter.proofs.Entering.{enters_checked, worker_is}
 use Rattle.ds_exporter.proofs.exporter.Exporter.check.Goals as goal
 
 pub invariant_of-self-2 : goal.invariant_of-self-2
@@ -57,3 +62,16 @@ returns-clause-stamps g c =
     let desk : kept_of c.look.new.self ≡ entered c.args.stamp c.worker_at-who.result Looked (kept_of c.self.inside.parts.desk) = c.look.ensures.entry ∙ ap (entered c.args.stamp c.worker_at-who.result Looked) c.in_ok-reserve.ensures.same in
     let below = rw (← c.self.view_is) at c.requires.later in
     rw (desk, c.in_ok-settle_at.ensures.ok) (below_with_checked e c.args.stamp c.args.place c.worker_at-who.result c.in_ok-rule.rule below (subst (λ (k : DeskView). last_of_desk k ≤ c.args.stamp) desk c.look.ensures.last))
+
+pub returns-clause-entered : goal.returns-clause-entered
+returns-clause-entered g c =
+    let e = state_of c.self.inside.parts in
+    let desk : kept_of c.look.new.self ≡ entered c.args.stamp c.worker_at-who.result Looked (kept_of c.self.inside.parts.desk) = c.look.ensures.entry ∙ ap (entered c.args.stamp c.worker_at-who.result Looked) c.in_ok-reserve.ensures.same in
+    let within = rw (← c.self.view_is) at c.requires.place in
+    let whole : state_of (record c.self.inside.parts { desk = c.look.new.self; lanes = c.settle_at.new.lanes }) ≡ with_checked c.args.stamp c.args.place c.worker_at-who.result c.in_ok-rule.rule e = λ i. record e { desk = desk i; lanes = c.in_ok-settle_at.ensures.ok i } in
+    let who : c.worker_at-who.result ≡ lane_actor e.host c.args.place
+    = there_is (c.worker_at-who.result ≡ lane_actor e.host c.args.place) e.lanes c.args.place within (λ l h. c.worker_at-who.ensures.who l h ∙ worker_is e c.args.place c.self.invariant l h) in
+    subst (λ (s : HostState). Enters c.args.stamp (lane_actor c.args.self.now.host c.args.place) c.args.self.now s) (sym whole)
+    (subst (λ (s : HostState). Enters c.args.stamp (lane_actor s.host c.args.place) s (with_checked c.args.stamp c.args.place c.worker_at-who.result c.in_ok-rule.rule e)) c.self.view_is
+    (subst (λ (a : Actor). Enters c.args.stamp a e (with_checked c.args.stamp c.args.place c.worker_at-who.result c.in_ok-rule.rule e)) who
+    (enters_checked c.args.stamp c.worker_at-who.result c.args.place c.in_ok-rule.rule e)))

@@ -1,4 +1,4 @@
-use Rattle.std.proofs.Common.{◌≡◌, ◌≤◌, map, sym, ap, subst, ◌∙◌, inl, inr}
+use Rattle.std.proofs.Common.{◌≡◌, ◌≤◌, map, sym, ap, subst, ◌∙◌, inl, inr, refl}
 use Rattle.ds_label.specs.declared.rule.Rule.{Rule}
 use Rattle.ds_script.specs.declared.actor.Actor.{Actor}
 use Rattle.ds_model.specs.Lists.{at}
@@ -41,7 +41,7 @@ returns-in-Ok-clause-ok g c =
     let procs : map process_of c.delegated_at.new.procs.items ≡ at c.args.index (delegated_proc c.args.category c.args.host c.args.reg c.in-Ok.bytes) e.procs = c.delegated_at.ensures ∙ ap (at c.args.index (delegated_proc c.args.category c.args.host c.args.reg c.in-Ok.bytes)) c.in_ok-reserve_proc.ensures.same in
     let below = rw (← c.self.view_is) at c.requires.later in
     rw (desk, procs, ← c.self.view_is) (stepped_done e c.args.index c.args.stamp who act c.args.reg c.args.host (delegated_proc c.args.category c.args.host c.args.reg c.in-Ok.bytes) within c.self.invariant (λ x h. ends_delegated e c.args.index c.args.stamp who (λ y k. free y k) c.args.category c.args.to c.args.from c.args.until c.args.reg c.args.host c.in-Ok.bytes answer x h)
-    (λ x h. asks x h) below (subst (λ (k : DeskView). last_of_desk k ≤ c.args.stamp) desk c.in-Ok.ensures.last))
+    refl (λ x h. asks x h) below (subst (λ (k : DeskView). last_of_desk k ≤ c.args.stamp) desk c.in-Ok.ensures.last))
 
 pub invariant_of-self-in-Err-Refused : goal.invariant_of-self-in-Err-Refused
 invariant_of-self-in-Err-Refused g c =
@@ -69,7 +69,7 @@ returns-in-Err-Refused-clause-ok g c =
     let procs : map process_of c.refused_at.new.procs.items ≡ at c.args.index (refused_proc c.in-Err-Refused.rule) e.procs = subst (λ (rule : Rule). map process_of c.refused_at.new.procs.items ≡ at c.args.index (refused_proc rule) (map process_of c.reserve_proc.new.procs.items)) c.in-Err-Refused.rule-is c.refused_at.ensures ∙ ap (at c.args.index (refused_proc c.in-Err-Refused.rule)) c.in_ok-reserve_proc.ensures.same in
     let below = rw (← c.self.view_is) at c.requires.later in
     rw (desk, procs, ← c.self.view_is) (stepped_done e c.args.index c.args.stamp who act c.args.reg c.args.host (refused_proc c.in-Err-Refused.rule) within c.self.invariant (λ x h. ends_refused e c.args.index c.args.stamp who (λ y k. free y k) act c.args.reg c.args.host c.in-Err-Refused.rule answer x h)
-    (λ x h. asks x h) below (subst (λ (k : DeskView). last_of_desk k ≤ c.args.stamp) desk c.in-Err-Refused.ensures.last))
+    refl (λ x h. asks x h) below (subst (λ (k : DeskView). last_of_desk k ≤ c.args.stamp) desk c.in-Err-Refused.ensures.last))
 
 pub invariant_of-self-in-Err-KeeperFault : goal.invariant_of-self-in-Err-KeeperFault
 invariant_of-self-in-Err-KeeperFault g c =

@@ -2,6 +2,7 @@ use Rattle.std.proofs.Common.{◌≡◌, refl, subst}
 use Rattle.ds_exporter.specs.HostStates.{HostState, state_of}
 use Rattle.ds_exporter.specs.PlainHosts.{ends_of}
 use Rattle.ds_exporter.proofs.DeliverPuts.{delivered, not_passed, nothing_delivered, some_left}
+use Rattle.ds_exporter.proofs.Entering.{enters_nothing}
 use Rattle.ds_exporter.proofs.exporter.Exporter.deliver.Goals as goal
 
 pub returns-then-has_empty_hand-clause-ok : goal.returns-then-has_empty_hand-clause-ok
@@ -18,3 +19,6 @@ pub judge-requires-clause-ready : goal.judge-requires-clause-ready
 judge-requires-clause-ready c =
     rw (← c.self.view_is)
     (λ k h. (not_passed k.passed c.has_passed.result (c.has_passed.ensures k h) c.if-has_passed.false, some_left k.hand c.has_empty_hand.result (c.has_empty_hand.ensures k h) c.if-has_empty_hand.false))
+
+pub returns-then-has_empty_hand-clause-entered : goal.returns-then-has_empty_hand-clause-entered
+returns-then-has_empty_hand-clause-entered c = λ k h. enters_nothing c.args.stamp k.who c.args.self.now

@@ -1,4 +1,4 @@
-use Rattle.std.proofs.Common.{◌≡◌, ◌≤◌, ℕ, List, map, ap, subst, ◌∙◌}
+use Rattle.std.proofs.Common.{◌≡◌, ◌≤◌, ℕ, List, map, ap, subst, ◌∙◌, refl}
 use Rattle.ds_script.specs.declared.actor.Actor.{Actor}
 use Rattle.ds_model.specs.Lists.{at}
 use Rattle.ds_model.specs.Desk.{Act, Importing, Done, Refuse}
@@ -38,7 +38,7 @@ returns-in-Ok-clause-ok c =
     let procs : map process_of c.imported_at.new.procs.items ≡ at c.args.index (imported_proc) e.procs = c.imported_at.ensures ∙ ap (at c.args.index (imported_proc)) c.in_ok-reserve_proc.ensures.same in
     let below = rw (← c.self.view_is) at c.requires.later in
     rw (desk, procs, ← c.self.view_is) (stepped_done e c.args.index c.args.stamp who act asks.0 asks.1 (imported_proc) within c.self.invariant (λ x h. ends_imported e c.args.index c.args.stamp who (λ y k. free y k) c.args.bytes.now asks.0 asks.1 answer x h)
-    (λ x h. asks.2 x h) below (subst (λ (k : DeskView). last_of_desk k ≤ c.args.stamp) desk c.in-Ok.ensures.last))
+    refl (λ x h. asks.2 x h) below (subst (λ (k : DeskView). last_of_desk k ≤ c.args.stamp) desk c.in-Ok.ensures.last))
 
 pub invariant_of-self-in-Err-Refused : goal.invariant_of-self-in-Err-Refused
 invariant_of-self-in-Err-Refused c =
@@ -66,7 +66,7 @@ returns-in-Err-Refused-clause-ok c =
     let procs : map process_of c.refused_at.new.procs.items ≡ at c.args.index (refused_proc c.in-Err-Refused.rule) e.procs = c.refused_at.ensures ∙ ap (at c.args.index (refused_proc c.in-Err-Refused.rule)) c.in_ok-reserve_proc.ensures.same in
     let below = rw (← c.self.view_is) at c.requires.later in
     rw (desk, procs, ← c.self.view_is) (stepped_done e c.args.index c.args.stamp who act asks.0 asks.1 (refused_proc c.in-Err-Refused.rule) within c.self.invariant (λ x h. ends_refused e c.args.index c.args.stamp who (λ y k. free y k) act asks.0 asks.1 c.in-Err-Refused.rule answer x h)
-    (λ x h. asks.2 x h) below (subst (λ (k : DeskView). last_of_desk k ≤ c.args.stamp) desk c.in-Err-Refused.ensures.last))
+    refl (λ x h. asks.2 x h) below (subst (λ (k : DeskView). last_of_desk k ≤ c.args.stamp) desk c.in-Err-Refused.ensures.last))
 
 pub invariant_of-self-in-Err-NoMemory : goal.invariant_of-self-in-Err-NoMemory
 invariant_of-self-in-Err-NoMemory c =

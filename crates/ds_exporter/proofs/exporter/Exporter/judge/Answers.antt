@@ -9,6 +9,7 @@ use Rattle.ds_exporter.specs.Conditions.{HasHelloFirst, IsBoxNamed}
 use Rattle.ds_exporter.proofs.Places.{all_get}
 use Rattle.ds_exporter.proofs.DeliverPuts.{delivered}
 use Rattle.ds_exporter.proofs.DeliverJudges.{arrived_judged_all, below_judged_all, changed_judged_all, ends_judged_all, fits_judged_all, others_judged_all, site_judged_all}
+use Rattle.ds_exporter.proofs.Entering.{enters_at_desk}
 use Rattle.ds_exporter.proofs.exporter.Exporter.judge.Goals as goal
 
 pub judge_at-requires-clause-table : goal.judge_at-requires-clause-table
@@ -86,3 +87,9 @@ pub returns-clause-looked : goal.returns-clause-looked
 returns-clause-looked c =
     rw (← c.self.view_is)
     (λ k h. c.look.ensures.entry ∙ ap₂ (λ (who : Actor) (d : DeskView). entered c.args.stamp who Looked d) (c.who_at-who.ensures k h) c.in_ok-reserve.ensures.same)
+
+pub returns-clause-entered : goal.returns-clause-entered
+returns-clause-entered c =
+    rw (← c.self.view_is)
+    (λ k h. enters_at_desk c.args.stamp k.who Looked (state_of c.self.inside.parts) (kept_of c.look.new.self) (map connection_of c.judge_at.new.conns.items)
+    (c.look.ensures.entry ∙ ap₂ (λ (who : Actor) (d : DeskView). entered c.args.stamp who Looked d) (c.who_at-who.ensures k h) c.in_ok-reserve.ensures.same))

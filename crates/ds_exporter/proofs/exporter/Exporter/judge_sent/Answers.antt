@@ -1,4 +1,4 @@
-use Rattle.std.proofs.Common.{◌≡◌, ◌≤◌, map, ap, subst, ◌∙◌}
+use Rattle.std.proofs.Common.{◌≡◌, ◌≤◌, map, ap, subst, ◌∙◌, refl}
 use Rattle.ds_script.specs.declared.actor.Actor.{Actor}
 use Rattle.ds_model.specs.Lists.{at}
 use Rattle.ds_model.specs.Desk.{Looked}
@@ -35,4 +35,4 @@ returns-clause-ok c =
     let procs : map process_of c.judged_at.new.procs.items ≡ at c.args.index (judged_proc c.args.message c.in_ok-verdict.verdict) e.procs
     = c.judged_at.ensures ∙ ap (at c.args.index (judged_proc c.args.message c.in_ok-verdict.verdict)) c.in_ok-reserve_proc.ensures.same in
     rw (desk, procs, ← c.self.view_is) (stepped_judged e c.args.index c.args.stamp who c.args.message c.in_ok-verdict.verdict says c.requires.short within (λ x h. free x h)
-    (λ x h. asks x h) below (subst (λ (k : DeskView). last_of_desk k ≤ c.args.stamp) desk c.look.ensures.last))
+    refl (λ x h. asks x h) below (subst (λ (k : DeskView). last_of_desk k ≤ c.args.stamp) desk c.look.ensures.last))

@@ -1,4 +1,4 @@
-use Rattle.std.proofs.Common.{◌≡◌, ◌≤◌, List, Some, map, slice_get, ap, subst, ◌∙◌}
+use Rattle.std.proofs.Common.{◌≡◌, ◌≤◌, List, Some, map, slice_get, ap, subst, ◌∙◌, refl}
 use Rattle.ds_label.specs.declared.rule.Rule.{Rule}
 use Rattle.ds_script.specs.declared.actor.Actor.{Actor}
 use Rattle.ds_model.specs.Lists.{at}
@@ -41,7 +41,7 @@ returns-in-Ok-clause-ok c =
     let procs : map process_of c.mapped_at.new.procs.items ≡ at c.args.index (mapped_proc c.args.category c.in-Ok.number) e.procs = c.mapped_at.ensures.procs ∙ ap (at c.args.index (mapped_proc c.args.category c.in-Ok.number)) c.in_ok-reserve_proc.ensures.same in
     let below = rw (← c.self.view_is) at c.requires.later in
     rw (desk, procs, ← c.self.view_is) (stepped_done e c.args.index c.args.stamp who act asks.0 asks.1 (mapped_proc c.args.category c.in-Ok.number) within c.self.invariant (λ x h. ends_mapped e c.args.index c.args.stamp who c.args.category c.in-Ok.number answer (λ y k. free y k) asks.0 asks.1 maps x h)
-    (λ x h. asks.2 x h) below (subst (λ (k : DeskView). last_of_desk k ≤ c.args.stamp) desk c.in-Ok.ensures.last))
+    refl (λ x h. asks.2 x h) below (subst (λ (k : DeskView). last_of_desk k ≤ c.args.stamp) desk c.in-Ok.ensures.last))
 
 pub invariant_of-self-in-Err-Refused : goal.invariant_of-self-in-Err-Refused
 invariant_of-self-in-Err-Refused c =
@@ -69,7 +69,7 @@ returns-in-Err-Refused-clause-ok c =
     let procs : map process_of c.refused_at.new.procs.items ≡ at c.args.index (refused_proc c.in-Err-Refused.rule) e.procs = subst (λ (rule : Rule). map process_of c.refused_at.new.procs.items ≡ at c.args.index (refused_proc rule) (map process_of c.reserve_proc.new.procs.items)) c.in-Err-Refused.rule-is c.refused_at.ensures ∙ ap (at c.args.index (refused_proc c.in-Err-Refused.rule)) c.in_ok-reserve_proc.ensures.same in
     let below = rw (← c.self.view_is) at c.requires.later in
     rw (desk, procs, ← c.self.view_is) (stepped_done e c.args.index c.args.stamp who act asks.0 asks.1 (refused_proc c.in-Err-Refused.rule) within c.self.invariant (λ x h. ends_refused e c.args.index c.args.stamp who (λ y k. free y k) act asks.0 asks.1 c.in-Err-Refused.rule answer x h)
-    (λ x h. asks.2 x h) below (subst (λ (k : DeskView). last_of_desk k ≤ c.args.stamp) desk c.in-Err-Refused.ensures.last))
+    refl (λ x h. asks.2 x h) below (subst (λ (k : DeskView). last_of_desk k ≤ c.args.stamp) desk c.in-Err-Refused.ensures.last))
 
 pub invariant_of-self-in-Err-NoMemory : goal.invariant_of-self-in-Err-NoMemory
 invariant_of-self-in-Err-NoMemory c =

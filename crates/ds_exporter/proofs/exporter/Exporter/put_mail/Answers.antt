@@ -1,4 +1,4 @@
-use Rattle.std.proofs.Common.{◌≡◌, map, ap, ◌∙◌}
+use Rattle.std.proofs.Common.{◌≡◌, map, refl, ap, ◌∙◌}
 use Rattle.ds_script.specs.declared.actor.Actor.{Actor}
 use Rattle.ds_model.specs.Lists.{at}
 use Rattle.ds_exporter.specs.HostStates.{box_of, process_of, state_of}
@@ -28,4 +28,4 @@ returns-clause-ok c =
     let who : Actor = proc_actor c.self.inside.parts.host c.args.index in
     let procs : map process_of c.sent_at.new.procs.items ≡ at c.args.index sent_proc e.procs = c.sent_at.ensures ∙ ap (at c.args.index sent_proc) c.in_ok-reserve_proc.ensures.same in
     let boxes : map box_of c.put_at.new.boxes.items ≡ at c.args.place (put_in c.args.stamp who c.args.message) e.boxes = c.put_at.ensures ∙ ap (at c.args.place (put_in c.args.stamp who c.args.message)) c.in_ok-reserve_box.ensures.same in
-    rw (procs, boxes, ← c.self.view_is) (stepped_put e c.args.index c.args.place c.args.stamp who c.args.message within (λ x h. free x h) (λ x h. asks x h) below)
+    rw (procs, boxes, ← c.self.view_is) (stepped_put e c.args.index c.args.place c.args.stamp who c.args.message within (λ x h. free x h) refl (λ x h. asks x h) below)

@@ -1,4 +1,4 @@
-use Rattle.std.proofs.Common.{◌≡◌, List, Some, map, slice_get, ap, subst, ◌∙◌}
+use Rattle.std.proofs.Common.{◌≡◌, List, Some, map, slice_get, ap, subst, ◌∙◌, refl}
 use Rattle.ds_label.specs.declared.category.PubKey.{PubKey}
 use Rattle.ds_script.specs.declared.actor.Actor.{Actor}
 use Rattle.ds_map.specs.Table.{IsTable}
@@ -43,7 +43,7 @@ returns-in-Ok-clause-ok c =
     let procs : map process_of c.took_at.new.procs.items ≡ at c.args.index (took_proc c.args.reg c.args.slot c.in-Ok.message) e.procs
     = c.took_at.ensures.procs ∙ ap (at c.args.index (took_proc c.args.reg c.args.slot c.in-Ok.message)) c.in_ok-reserve_proc.ensures.same in
     let boxes : map box_of c.take_at.new.boxes.items ≡ at c.args.place (taken_box c.args.stamp who) e.boxes = c.in-Ok.ensures.ok ∙ ap (at c.args.place (taken_box c.args.stamp who)) c.in_ok-reserve_box.ensures.same in
-    rw (procs, boxes, ← c.self.view_is) (stepped_take e c.args.index c.args.place c.args.stamp c.args.reg c.args.slot who c.in-Ok.message within inside (λ x h. free x h) table c.self.invariant first takes (λ x h. asks x h) below)
+    rw (procs, boxes, ← c.self.view_is) (stepped_take e c.args.index c.args.place c.args.stamp c.args.reg c.args.slot who c.in-Ok.message within inside (λ x h. free x h) table c.self.invariant first takes refl (λ x h. asks x h) below)
 
 pub returns-in-Err-clause-ok : goal.returns-in-Err-clause-ok
 returns-in-Err-clause-ok c =
