@@ -1,7 +1,7 @@
 //! A queue with room for a fixed number of items.
 #![tactic(auto)]
 
-ghost use Rattle.std.specs.Prelude.{◌≡◌, ◌↔◌, ◌<◌, ◌≤◌, ◌++◌, [], ◌∷◌, true, length, drop, slice_get, option_copied, IfErr, IsOk, OnErr, OnOk};
+ghost use Rattle.std.specs.Prelude.{◌≡◌, ◌↔◌, ◌<◌, ◌≤◌, ◌++◌, [], ◌∷◌, true, length, drop, slice_get, option_copied, IfErr, IsOk, MatchOption, OnErr, OnOk, Some};
 ghost use Rattle.ds_queue.specs.Queues.{new_queue};
 
 use circular_buffer::HeapCircularBuffer;
@@ -64,6 +64,13 @@ impl<T> Queue<T> {
         }
     }
 
+    /// The oldest item, if there is one.
+    pub fn oldest(&self) -> Option<&T>
+        ensures { MatchOption result (self.now.items ≡ []) (λ x. slice_get self.now.items 0 ≡ Some x.now) }
+    {
+        self.get(0)
+    }
+
     /// Takes the memory for all items that there is room for, if it wasn't taken yet. After `AllocError`, which says that memory
     /// ran out, nothing changed.
     pub fn reserve(&mut self) -> Result<(), AllocError>
@@ -99,8 +106,8 @@ impl<T> Queue<T> {
 
     /// Takes out the oldest item, if there is one. It takes no memory.
     pub fn pop(&mut self) -> Option<T>
-        ensures value { result ≡ slice_get self.old.items 0 }
-        ensures items { self.new ≡ record self.old { items = drop 1 self.old.items } }
+        ensures oldest { MatchOption result (self.old.items ≡ []) (λ x. self.old.items ≡ x ∷ drop 1 self.old.items) }
+        ensures rest { self.new ≡ record self.old { items = drop 1 self.old.items } }
     {
         match &mut self.ring {
             Some(ring) => ring.pop_front(),
