@@ -9,9 +9,9 @@ use crate::copying::copies_of;
 use crate::entry::{BoxAct, BoxEntry, BoxSegment};
 use ds_label::LocalLabel;
 use ds_msg::LocalMessage;
+use ds_queue::Queue;
 use ds_script::Actor;
 use std::alloc::{AllocError, Global};
-use std::collections::VecDeque;
 use std::marker::Model;
 use std::mem;
 use thiserror::Error;
@@ -28,7 +28,7 @@ pub struct BoxState {
     label: LocalLabel,
     owner: u32,
     room: u32,
-    waiting: VecDeque<LocalMessage>,
+    waiting: Queue<LocalMessage>,
     opening: Vec<LocalMessage>,
     before: u64,
     history: Vec<BoxEntry>,
@@ -56,7 +56,7 @@ impl BoxState {
             label,
             owner,
             room,
-            waiting: VecDeque::new(alloc),
+            waiting: Queue::new(alloc, room as usize),
             opening: Vec::new(alloc),
             before: 0,
             history: Vec::new(alloc),
@@ -104,7 +104,7 @@ impl BoxState {
         ensures oldest { MatchOption result (self.now.mailbox.waiting ≡ []) (λ m. slice_get self.now.mailbox.waiting 0 ≡ Some m.now) }
         ensures short { IfSome result (λ m. IsShortMail m.now) }
     {
-        self.waiting.front()
+        self.waiting.oldest()
     }
 
     /// The entries since the opening, in order.
@@ -135,7 +135,7 @@ impl BoxState {
         ensures room { OnOk result (0 < self.new.spare) }
     {
         self.history.reserve(1)?;
-        self.waiting.reserve(1)
+        self.waiting.reserve()
     }
 
     /// Queues a message, or drops it where the mailbox is full. The entry, put or full, holds `kept`, which is equal to the
@@ -153,7 +153,9 @@ impl BoxState {
             self.last = stamp;
             return;
         }
-        self.waiting.push_back_reserved(message);
+        let Ok(()) = self.waiting.push(message) else {
+            unreachable!();
+        };
         let act = BoxAct::Put(kept);
         self.history.push_reserved(BoxEntry { stamp, who, act });
         self.last = stamp;
@@ -172,7 +174,7 @@ impl BoxState {
         ensures ok { OnOk result (self.new.mailbox ≡ entered stamp who TookOut self.old.mailbox) }
         ensures err { OnErr result (self.new ≡ self.old) }
     {
-        let Some(message) = self.waiting.pop_front() else {
+        let Some(message) = self.waiting.pop() else {
             return Err(Empty);
         };
         let act = BoxAct::Took;

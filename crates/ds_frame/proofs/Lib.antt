@@ -4,6 +4,7 @@ pub mod SteadyItems
 pub mod Pieces
 pub mod ItemLaws
 pub mod Offsets
+pub mod Waiting
 pub mod OuterLaws
 pub mod BodyLaws
 pub mod Goods

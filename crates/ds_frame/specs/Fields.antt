@@ -1,6 +1,6 @@
 -- Reading the front of a stream from left to right. A reader answers a value and the bytes that follow it. Where a field isn't
 -- whole yet, the front is open; where one that is whole is out of range, the stream is broken.
-use Rattle.std.specs.Prelude.{◌≡◌, ◌≤◌, ℕ, List, Option, Some, None, Result, Ok, Err, nat_lt, if◌then◌else◌}
+use Rattle.std.specs.Prelude.{◌≡◌, ◌≤◌, ◌<◌, ℕ, List, Option, Some, None, Result, Ok, Err, nat_lt, if◌then◌else◌}
 use Rattle.std.specs.Int.{Width}
 use Rattle.ds_wire.specs.Fields.{number_at}
 use Rattle.ds_cert.specs.Fields.{◌>>=◌}
@@ -40,3 +40,10 @@ IsAmong length (Ok x) = Unit {0}
 IsAmong length (Err halts.NoMemory) = Unit {0}
 IsAmong length (Err halts.Open) = Unit {0}
 IsAmong length (Err (halts.Broken cause offset)) = offset ≤ length
+
+-- where a field isn't whole, there are fewer bytes than that
+abbrev pub IsOpenBelow : {X : Type 0} → (most length : ℕ) → Result X ReadFaultOrMemory → Type 0
+IsOpenBelow most length (Ok x) = Unit {0}
+IsOpenBelow most length (Err halts.NoMemory) = Unit {0}
+IsOpenBelow most length (Err halts.Open) = length < most
+IsOpenBelow most length (Err (halts.Broken cause offset)) = Unit {0}

@@ -6,6 +6,7 @@ pub mod Outer
 pub mod Bodies
 pub mod Checks
 pub mod Reader
+pub mod ReaderInside
 pub mod Streams
 pub mod Laws
 pub mod SoFar

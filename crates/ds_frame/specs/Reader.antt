@@ -1,5 +1,5 @@
 -- A reader of a stream, and what one call makes of it.
-use Rattle.std.specs.Prelude.{◌≡◌, ℕ, ◌+◌, ◌-◌, List, [], ◌++◌, length, Option, Some, None, Result, Ok, Err}
+use Rattle.std.specs.Prelude.{◌≡◌, ℕ, ◌+◌, ◌-◌, ◌≤◌, List, [], ◌++◌, length, Option, Some, None, Result, Ok, Err}
 use Rattle.ds_cert.specs.declared.lane.LaneCert.{LaneCert}
 use Rattle.ds_frame.specs.declared.item.Failure.{Failure}
 use Rattle.ds_frame.specs.declared.item.Item.{Item}
@@ -19,6 +19,10 @@ pub record Reader : Type 0 where
 
 abbrev pub new_reader : Reader
 new_reader = record { rest = []; passed = 0; lane = None; failure = None }
+
+-- for how many bytes more there is space, if it keeps at most as many as the longest frame has
+abbrev pub space_of : Reader → ℕ
+space_of r = 1158249 - length r.rest
 
 abbrev pub fed : (piece : List ℕ) → Reader → Reader
 fed piece r = record r { rest = r.rest ++ piece }
@@ -57,3 +61,10 @@ Answered before (Err ends.NoMemory) after = after ≡ before
 Answered before (Err ends.NotYet) after = next_by read_item before ≡ record { answer = Err ends.NotYet; reader = after }
 Answered before (Err (ends.BadFrame cause place)) after = next_by read_item before ≡ record { answer = Err (ends.BadFrame cause place); reader = after }
 Answered before (Ok item) after = next_by read_item before ≡ record { answer = Ok item; reader = after }
+
+-- a reader that waits for more bytes has space for one
+abbrev pub LeavesSpace : Result Item ReadEnd → (after : Reader) → Type 0
+LeavesSpace (Ok item) after = Unit {0}
+LeavesSpace (Err ends.NotYet) after = 1 ≤ space_of after
+LeavesSpace (Err (ends.BadFrame cause place)) after = Unit {0}
+LeavesSpace (Err ends.NoMemory) after = Unit {0}

@@ -3,7 +3,7 @@
 ghost use Rattle.std.specs.Prelude.{◌≡◌, ◌≤◌, drop, length, IfOk};
 ghost use Rattle.ds_frame.specs.Bodies.{split};
 ghost use Rattle.ds_frame.specs.Checks.{checked_bodies, read_frame, read_hello, read_item};
-ghost use Rattle.ds_frame.specs.Fields.{Finds, IsAmong};
+ghost use Rattle.ds_frame.specs.Fields.{Finds, IsAmong, IsOpenBelow};
 ghost use Rattle.ds_frame.specs.Laws.{StartsWith};
 ghost use Rattle.ds_frame.specs.Spelling.{signed_fields};
 
@@ -96,6 +96,8 @@ pub fn item_of(
     ensures size { IfOk result (λ x. x.1 ≤ length bytes.now) }
     ensures starts { IfOk result (λ x. StartsWith lane.now x.0 bytes.now (drop x.1 bytes.now)) }
     ensures among { IsAmong (length bytes.now) result }
+    // The longest frame has that many bytes.
+    ensures below { IsOpenBelow 1158249 (length bytes.now) result }
 {
     let (item, rest) = item_and_rest(alloc, lane, bytes)?;
     Ok((item, bytes.len() - rest.len()))

@@ -4,19 +4,19 @@
 ghost use Rattle.std.specs.Prelude.{◌≡◌, IfOk};
 
 use crate::batch::Waiting;
+use ds_queue::Queue;
 use std::alloc::{AllocError, Global};
-use std::collections::VecDeque;
 
 /// Copies of all that wait, in order.
-pub(crate) fn copies_of(
-    alloc: Global,
-    waiting: &VecDeque<Waiting>,
-) -> Result<Vec<Waiting>, AllocError>
+pub(crate) fn copies_of(alloc: Global, waiting: &Queue<Waiting>) -> Result<Vec<Waiting>, AllocError>
     ensures { IfOk result (λ copied. copied.items ≡ waiting.now.items) }
 {
     let mut copied = Vec::with_capacity(alloc, waiting.len())?;
     for place in 0..waiting.len() {
-        copied.push(waiting[place].copy()?)?;
+        let Some(message) = waiting.get(place) else {
+            unreachable!();
+        };
+        copied.push(message.copy()?)?;
     }
     Ok(copied)
 }

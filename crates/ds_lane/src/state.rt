@@ -1,7 +1,6 @@
 //! What waits on a lane, and its history.
 #![tactic(auto)]
 
-ghost use Rattle.std.specs.VecDeque.{deque_len};
 ghost use Rattle.std.specs.Prelude.{vec_len, vec_capacity, ◌+◌, ◌≡◌, ◌↔◌, ◌<◌, ◌≤◌, ◌++◌, [], ◌∷◌, length, min, take, drop, nat_lt, not, slice_get, option_copied, All, Err, IfOk, OnOk, OnErr, IfSome};
 ghost use Rattle.ds_model.specs.Lane.{admit_entry, front};
 ghost use Rattle.ds_lane.specs.Lanes.{IsReplay, IsOn, WaitsOn, sent_by, last_stamp, entered, lift_entry, checkpointed, fresh_lane};
@@ -11,9 +10,9 @@ use crate::copying::copies_of;
 use crate::entry::{LaneAct, LaneEntry, LaneSegment};
 use ds_cert::LaneCert;
 use ds_msg::Message;
+use ds_queue::Queue;
 use ds_script::Actor;
 use std::alloc::{AllocError, Global};
-use std::collections::VecDeque;
 use std::marker::Model;
 use std::mem;
 use thiserror::Error;
@@ -39,7 +38,7 @@ pub enum LiftEnd {
 pub struct LaneState {
     cert: LaneCert,
     room: u32,
-    waiting: VecDeque<Waiting>,
+    waiting: Queue<Waiting>,
     opening: Vec<Waiting>,
     before: u64,
     history: Vec<LaneEntry>,
@@ -60,15 +59,15 @@ impl Model for LaneState {
 
 /// Moves that many messages from the front of one list into the other, which is empty. It takes no memory.
 #[tactic(auto, using(crate::proofs::Fronts::front_moved, crate::proofs::Fronts::rest_left, crate::proofs::Fronts::one_moved))]
-fn move_front(waiting: &mut VecDeque<Waiting>, count: usize, moved: &mut Vec<Waiting>)
-    requires there { count ≤ deque_len waiting.old }
+fn move_front(waiting: &mut Queue<Waiting>, count: usize, moved: &mut Vec<Waiting>)
+    requires there { count ≤ length waiting.old.items }
     requires room { count ≤ vec_capacity moved.old }
     requires none { moved.old.items ≡ [] }
     ensures moved { moved.new.items ≡ take count waiting.old.items }
-    ensures left { waiting.new.items ≡ drop count waiting.old.items }
+    ensures left { waiting.new ≡ record waiting.old { items = drop count waiting.old.items } }
 {
     for _ in 0..count {
-        if let Some(oldest) = waiting.pop_front() {
+        if let Some(oldest) = waiting.pop() {
             moved.push_reserved(oldest);
         }
     }
@@ -82,7 +81,7 @@ impl LaneState {
         LaneState {
             cert,
             room,
-            waiting: VecDeque::new(alloc),
+            waiting: Queue::new(alloc, room as usize),
             opening: Vec::new(alloc),
             before: 0,
             history: Vec::new(alloc),
@@ -153,7 +152,7 @@ impl LaneState {
         ensures room { OnOk result (0 < self.new.spare) }
     {
         self.history.reserve(1)?;
-        self.waiting.reserve(1)
+        self.waiting.reserve()
     }
 
     /// Queues a message of the process that `who` names, or drops it where as many wait as there is room for. The message
@@ -177,7 +176,9 @@ impl LaneState {
             self.last = stamp;
             return;
         }
-        self.waiting.push_back_reserved(Waiting { from, message });
+        let Ok(()) = self.waiting.push(Waiting { from, message }) else {
+            unreachable!();
+        };
         let act = LaneAct::Queued(kept);
         self.history.push_reserved(LaneEntry { stamp, who, act });
         self.last = stamp;

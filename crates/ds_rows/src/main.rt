@@ -77,7 +77,7 @@ fn answer(row: &mut Row<'_>, rt: &HostRuntime, names: &mut Names) {
         rows_cert::row(row, names);
         return;
     }
-    if is_among(row, "stream frame hello causes") {
+    if is_among(row, "stream spaces frame hello causes") {
         rows_frame::row(row, names);
         return;
     }

@@ -50,15 +50,49 @@ fn reads(row: &mut Row<'_>, reader: &mut FrameReader) {
     }
 }
 
+/// Has the reader take bytes for which there is space.
+fn feed(row: &mut Row<'_>, reader: &mut FrameReader, part: &[u8]) {
+    if reader.space() < part.len() {
+        return row.bad();
+    }
+    if reader.passed() > u64::MAX / 2 {
+        return row.bad();
+    }
+    if reader.feed(part).is_err() {
+        row.full();
+    }
+}
+
+/// Says for how many bytes more there is space, where that is asked.
+fn say_space(row: &mut Row<'_>, reader: &FrameReader, asked: bool) {
+    if asked {
+        row.say("space");
+        row.say_number(reader.space() as u64);
+    }
+}
+
+/// Feeds a piece, in parts for which there is space, and says what is read after each part.
+fn feed_all(row: &mut Row<'_>, reader: &mut FrameReader, piece: &[u8], asked: bool) {
+    let mut left = piece;
+    for _ in 0..9 {
+        let (part, rest) = left.split_at(reader.space().min(left.len()));
+        feed(row, reader, part);
+        say_space(row, reader, asked);
+        reads(row, reader);
+        say_space(row, reader, asked);
+        if part.is_empty() || rest.is_empty() {
+            return;
+        }
+        left = rest;
+    }
+}
+
 /// Says what is read after each piece of a stream, and what is answered once more.
-fn stream(row: &mut Row<'_>, names: &Names) {
+fn stream(row: &mut Row<'_>, names: &Names, asked: bool) {
     let mut reader = FrameReader::new(row.alloc);
     for place in 1..row.len() {
         let piece = row.bytes(names, place);
-        if reader.feed(&piece).is_err() {
-            row.full();
-        }
-        reads(row, &mut reader);
+        feed_all(row, &mut reader, &piece, asked);
         row.say("|");
     }
     reads(row, &mut reader);
@@ -143,10 +177,14 @@ fn say_causes(row: &mut Row<'_>) {
     }
 }
 
-/// `stream PIECE ..`, `frame N of COUNT MESSAGE signed SIGNATURE is BYTES`, `hello CERT is BYTES`, `causes`.
+/// `stream PIECE ..`, `spaces PIECE ..`, `frame N of COUNT MESSAGE signed SIGNATURE is BYTES`, `hello CERT is BYTES`, `causes`.
 pub(crate) fn row(row: &mut Row<'_>, names: &Names) {
     if row.is(0, "stream") {
-        stream(row, names);
+        stream(row, names, false);
+        return;
+    }
+    if row.is(0, "spaces") {
+        stream(row, names, true);
         return;
     }
     if row.is(0, "frame") {

@@ -1,5 +1,4 @@
-use Rattle.std.proofs.Common.{◌≡◌, ◌++◌, ◌+◌, length, vec_len, vec_capacity}
-use Rattle.std.specs.VecDeque.{deque_len}
+use Rattle.std.proofs.Common.{◌≡◌, ◌++◌, ◌+◌, Bool, length, vec_len, vec_capacity}
 use Rattle.ds_lane.proofs.state.move_front.Given as goal
 
 abbrev pub invariant-loop : goal.invariant-loop
@@ -8,6 +7,8 @@ invariant-loop l =
       joined : l.moved.items ++ l.waiting.items ≡ l.initial.waiting.items;
       moved : length l.moved.items ≡ l.counter;
       size : vec_len l.moved ≡ l.counter;
-      left : deque_len l.waiting + l.counter ≡ deque_len l.initial.waiting;
-      room : vec_capacity l.moved ≡ vec_capacity l.initial.moved;
+      left : length l.waiting.items + l.counter ≡ length l.initial.waiting.items;
+      space : vec_capacity l.moved ≡ vec_capacity l.initial.moved;
+      room : l.waiting.room ≡ l.initial.waiting.room;
+      ready : l.waiting.is_ready ≡ l.initial.waiting.is_ready;
     }

@@ -16,6 +16,7 @@ invariant_of-self c =
     record {
       replay = rw c.push_reserved.ensures.items replay;
       last = rw c.push_reserved.ensures.items (grown_last b c.args.stamp c.args.who change);
+      room = c.self.invariant.room;
     }
 
 pub invariant_of-self-2 : goal.invariant_of-self-2
@@ -27,6 +28,7 @@ invariant_of-self-2 c =
     let later = rw (← c.self.view_is) at c.requires.later in
     let replay = grown b c.args.stamp c.args.who change c.self.invariant.replay later (free_may (length b.waiting) b.room free) short in
     record {
-      replay = rw (c.push_reserved-2.ensures.items, c.push_back_reserved.ensures.items, ← c.requires.same) replay;
+      replay = rw (c.push_reserved-2.ensures.items, c.in-Ok.ensures.ok, ← c.requires.same) replay;
       last = rw c.push_reserved-2.ensures.items (grown_last b c.args.stamp c.args.who change);
+      room = rw c.in-Ok.ensures.ok c.self.invariant.room;
     }

@@ -18,4 +18,5 @@ invariant_of-self c =
     record {
       replay = rw (c.push_reserved.ensures.items, c.move_front.ensures.left) replay;
       last = rw c.push_reserved.ensures.items (grown_last b c.args.stamp c.args.who change);
+      room = rw c.move_front.ensures.left c.self.invariant.room;
     }
