@@ -1,7 +1,7 @@
 #!/usr/bin/env python3
 """Compares what two programs answer to random documents: whole ones, and ones that break a rule.
 
-    documents_compare.py OURS REFERENCE SEED COUNT [--lines]
+    documents_compare.py OURS REFERENCE SEED COUNT [--lines] [--workers N]
 
 Both are run as `PROGRAM sim`, a document on standard input; with status 0 their texts are compared, with status 5 the
 code and the place that standard error tells. With --lines OURS is run once: it gets the documents in hex, a line
@@ -249,7 +249,7 @@ class G:
                         evs.append([w, r.randrange(nl, nc), r.choice(["", "00ff", "DSX1".encode().hex().upper()])])
                 elif w == "copy":
                     if links:
-                        evs.append([w, r.randrange(nl, nc), r.randrange(nl, nc), r.choice([0, 3]), r.choice([0, 9])])
+                        evs.append([w, r.randrange(nl, nc), r.randrange(nc), r.choice([0, 3]), r.choice([0, 9, 2**64 - 1])])
             d["events"] = evs
         return d
 
@@ -526,18 +526,23 @@ def case(seed):
 
 def main():
     words = [word for word in sys.argv[1:] if word != "--lines"]
+    workers = os.cpu_count()
+    if "--workers" in words:
+        place = words.index("--workers")
+        workers = int(words[place + 1])
+        del words[place:place + 2]
     if len(words) != 4:
         sys.exit(__doc__)
     ours, reference = os.path.abspath(words[0]), os.path.abspath(words[1])
     seed, count = int(words[2]), int(words[3])
     documents = [case(seed * 1000003 + number) for number in range(count)]
-    with ThreadPoolExecutor(os.cpu_count()) as workers:
-        theirs = list(workers.map(lambda document: answer(reference, document), documents))
+    with ThreadPoolExecutor(workers) as pool:
+        theirs = list(pool.map(lambda document: answer(reference, document), documents))
         if "--lines" in sys.argv:
             theirs = [other.split("\n")[0] for other in theirs]
             mine = answers_by_lines(ours, documents)
         else:
-            mine = list(workers.map(lambda document: answer(ours, document), documents))
+            mine = list(pool.map(lambda document: answer(ours, document), documents))
     tally, differ = collections.Counter(), 0
     if len(mine) != count:
         sys.exit(f"{len(mine)} answers to {count} documents")
