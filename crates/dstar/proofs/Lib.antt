@@ -1,2 +1,3 @@
 pub mod Sims
 pub mod Answering
+pub mod Headlines

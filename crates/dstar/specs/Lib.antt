@@ -3,3 +3,4 @@ pub mod Codes
 pub mod Words
 pub mod Sims
 pub mod Causes
+pub mod Headline

@@ -3,7 +3,10 @@
 ghost use Rattle.std.specs.Prelude.{◌≡◌, ◌≢◌, ◌≤◌, ◌↔◌, ℕ, List, false, true, Some, None};
 ghost use Rattle.ds_base.specs.Counts.{Rose};
 ghost use Rattle.dstar.specs.declared.call.Call.{Call};
+ghost use Rattle.dstar.specs.declared.call.Call.TheVariants.{Sim};
 ghost use Rattle.dstar.specs.Causes.{Caused, Answers, asks_keeper};
+ghost use Rattle.dstar.specs.Headline.{Ran};
+ghost use Rattle.dstar.specs.Sims.{IsDeliveredLawfully, LooksTheSame};
 ghost use Rattle.dstar.specs.Words.{texts, is_sim, call_in};
 
 use crate::call::Call;
@@ -79,6 +82,14 @@ pub fn dstar_run<R: Source, W: Sink, K: Keeper>(
       keeper_faults = K.faults keeper.old;
       keeper_faults_after = K.faults keeper.new;
     }) result }
+    // The headline, of the run whose text `sim` wrote. What it delivers it delivers only where the sender's, both exporters' and the
+    // mailbox's rules hold.
+    ensures lawful { call_in (texts words.now.items) ≡ Some Sim → result ≡ Status.Ok
+        → Ran (R.tells input.old) (R.tells input.new) (W.tells out.old) (W.tells out.new) IsDeliveredLawfully }
+    // For each secrecy category, outside of it that text is the same as the text of each run of each document that agrees, with equal
+    // observations, while the hosts that are trusted for it obey and nothing is forged.
+    ensures outside { call_in (texts words.now.items) ≡ Some Sim → result ≡ Status.Ok
+        → Ran (R.tells input.old) (R.tells input.new) (W.tells out.old) (W.tells out.new) LooksTheSame }
     // Where the input tells its bytes and no count rose, the bytes alone decide, and for `sign` the mark, unless memory ran out.
     ensures answers { (call : Call) → call_in (texts words.now.items) ≡ Some call → (bytes : List ℕ) → R.tells input.old ≡ Some bytes
         → ¬ Rose (R.faults input.old) (R.faults input.new) → ¬ Rose (W.faults out.old) (W.faults out.new)
