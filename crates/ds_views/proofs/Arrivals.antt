@@ -1,20 +1,24 @@
 -- What arrived at the connections to a host, which stand in its list by their places, is what the plain world gathers by their numbers.
-use Rattle.std.proofs.Common.{◌≡◌, ℕ, zero, suc, ◌+◌, ◌<◌, ◌≤◌, arith, Bool, true, false, List, [], ◌∷◌, ◌++◌, Some, refl, sym, ap, ◌∙◌, subst, map, length, take, get_or, slice_get, option_map}
+use Rattle.std.proofs.Common.{◌≡◌, ℕ, zero, suc, ◌+◌, ◌<◌, ◌≤◌, arith, Bool, true, false, List, [], ◌∷◌, ◌++◌, Option, Some, None, refl, sym, ap, ◌∙◌, subst, map, length, take, get_or, slice_get, option_map}
 use Rattle.std.specs.Prelude.{◌==◌, if◌then◌else◌}
 use Rattle.std.proofs.lemmas.Bool.Decides.{nat_tests}
+use Rattle.std.proofs.lemmas.Option.{none-some, same_Some, slice_get-map}
 use Rattle.std.proofs.lemmas.List.{append-nil, length-map, take_all, take_more}
 use Rattle.ds_model.specs.Lists.{gathered}
 use Rattle.ds_model.specs.Plan.{ConnPlan, Plan, conn_plan}
-use Rattle.ds_model.specs.Views.{arrived_at, arrived_to, arrived_in as bytes_in}
+use Rattle.ds_model.specs.Desk.{Desk}
+use Rattle.ds_model.specs.World.{Host}
+use Rattle.ds_model.specs.Views.{HostView, arrived_at, arrived_to, arrived_in as bytes_in, host_view, view_of_host}
 use Rattle.ds_setup.specs.Plans.{plan_of}
 use Rattle.ds_setup.proofs.Places.{each_at, inside}
 use Rattle.ds_exporter.specs.PlainHosts.{arrived_of}
-use Rattle.ds_hosts.specs.Nodes.{NodeState, arrived_in, conns_of}
+use Rattle.ds_hosts.specs.Nodes.{NodeState, conns_of, plain_host}
 use Rattle.ds_world.specs.declared.route.Route.{Route}
 use Rattle.ds_world.specs.Worlds.{WorldState, IsWorld, conns_in, count_to, leads_to, route_at, routes_of, world_of}
 use Rattle.ds_world.proofs.Routes.{conn_plan_is, within_all}
 use Rattle.ds_world.proofs.Changes.{conn_there}
 use Rattle.ds_world.proofs.OneConn.{arrived_is, bytes_are}
+use Rattle.ds_views.specs.Views.{node_view}
 
 count_push : (host : ℕ) (cs : List ConnPlan) (c : ConnPlan) → count_to host (cs ++ c ∷ []) ≡ count_to host cs + leads_to host c
 count_push host [] c = omega arith
@@ -22,8 +26,8 @@ count_push host (d ∷ cs) c = let rest : count_to host (cs ++ c ∷ []) ≡ cou
 
 -- the list with the thing at a place
 take_next : {X : Type 0} (xs : List X) (n : ℕ) (x : X) → slice_get xs n ≡ Some x → take (suc n) xs ≡ take n xs ++ x ∷ []
-take_next [] n x e = absurd cc
-take_next (y ∷ xs) zero x e = let same : Some y ≡ Some x = e in cc
+take_next [] n x e = absurd (none-some x e)
+take_next {X} (y ∷ xs) zero x e = ap (λ (z : X). z ∷ []) (same_Some y x e)
 take_next {X} (y ∷ xs) (suc n) x e = ap (λ (ys : List X). y ∷ ys) (take_next xs n x e)
 
 -- F says what the connection of a number gives: where it leads to the host, what stands at its place, and else nothing
@@ -102,3 +106,21 @@ module _ (w : WorldState) (is : IsWorld w) (h : ℕ) (x : NodeState) (there : sl
 
   pub arrived_there : arrived_to plan (world_of w) h ≡ all
   arrived_there = all_gathered h conns all given size_is hit_is miss_is
+
+-- so what a host of the run sees is the plain world's
+module _ (w : WorldState) (h : ℕ) (is : IsWorld w) where
+  abbrev seen : Option Host → Option HostView
+  seen o = option_map (λ (d : Desk). host_view d (arrived_to (plan_of w.doc) (world_of w) h)) (option_map (λ (y : Host). y.desk) o)
+
+  stands : (o : Option NodeState) → slice_get w.nodes h ≡ o → seen (option_map plain_host o) ≡ view_of_host (plan_of w.doc) (world_of w) h
+  stands o e = ap seen (sym (slice_get-map plain_host w.nodes h ∙ ap (option_map plain_host) e))
+
+  by_node : (o : Option NodeState) → slice_get w.nodes h ≡ o → option_map node_view (slice_get w.nodes h) ≡ view_of_host (plan_of w.doc) (world_of w) h
+  by_node None e = ap (option_map node_view) e ∙ stands None e
+  by_node (Some x) e =
+      ap (option_map node_view) e
+      ∙ ap (λ (bytes : List (List ℕ)). Some (host_view (plain_host x).desk bytes)) (sym (arrived_there w is h x e))
+      ∙ stands (Some x) e
+
+  pub host_is : option_map node_view (slice_get w.nodes h) ≡ view_of_host (plan_of w.doc) (world_of w) h
+  host_is = by_node (slice_get w.nodes h) refl

@@ -1,3 +1,4 @@
 pub mod Arrivals
 pub mod Actors
+pub mod Runs
 pub mod Apart

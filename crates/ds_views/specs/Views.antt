@@ -1,14 +1,16 @@
 -- What actors see of a run: a process itself, and a host's clock the host's public state and what arrived there. A lane's worker and
 -- a connection have no view.
-use Rattle.std.specs.Prelude.{◌≡◌, ℕ, false, List, Option, Some, None, option_map, slice_get}
+use Rattle.std.specs.Prelude.{◌≡◌, ℕ, false, List, map, Option, Some, None, option_map, slice_get}
 use Rattle.ds_label.specs.declared.category.Category.{Category}
 use Rattle.ds_script.specs.declared.actor.Actor.{Actor}
 use Rattle.ds_script.specs.declared.actor.ActorKind.{ActorKind}
 use Rattle.ds_script.specs.declared.actor.ActorKind.TheVariants as kinds
 use Rattle.ds_model.specs.Plan.{Plan}
 use Rattle.ds_model.specs.World.{Process, Host, World}
-use Rattle.ds_model.specs.Views.{proc_at, view_of_proc, view_of_host}
+use Rattle.ds_model.specs.Views.{HostView, host_view, proc_at, view_of_proc, view_of_host}
 use Rattle.ds_noninterference.specs.High.{is_in, high_at}
+use Rattle.ds_exporter.specs.PlainHosts.{arrived_of}
+use Rattle.ds_hosts.specs.Nodes.{NodeState, conns_of, plain_host}
 use Rattle.ds_views.specs.declared.actor_view.View.{View}
 use Rattle.ds_views.specs.declared.actor_view.View.TheVariants as views
 
@@ -41,3 +43,7 @@ IsApart c trusted w kinds.Conn h i = ⊥
 
 abbrev pub IsOutside : Category → (trusted : List ℕ) → World → Actor → Type 0
 IsOutside c trusted w a = IsApart c trusted w a.kind a.host a.index
+
+-- what a host of a run sees: what arrived at the connections to it, in the order of their numbers
+abbrev pub node_view : NodeState → HostView
+node_view x = host_view (plain_host x).desk (map arrived_of (conns_of x))

@@ -28,7 +28,8 @@ fn run_of(alloc: Global, doc: &Doc, events: &EventList) -> Result<World, AllocEr
     ensures end { IfOk result (λ world. world_of world ≡ end_of doc.now (map meant events.now)) }
 {
     let _count = events.len();
-    let mut world = setup(alloc, copy_without_events(alloc, doc)?)?;
+    let copy = copy_without_events(alloc, doc)?;
+    let mut world = setup(alloc, copy)?;
     world.run(events)?;
     Ok(world)
 }
