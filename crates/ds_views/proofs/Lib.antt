@@ -1,3 +1,4 @@
+pub mod Lookups
 pub mod Arrivals
 pub mod Actors
 pub mod Runs
