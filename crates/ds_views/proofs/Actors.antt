@@ -1,5 +1,5 @@
 -- A run keeps its actors: which hosts run and how many processes they have is in the document.
-use Rattle.std.proofs.Common.{◌≡◌, ℕ, ◌<◌, arith, true, false, List, [], Option, Some, None, refl, sym, ap, ◌∙◌, map, length, slice_get, option_map}
+use Rattle.std.proofs.Common.{◌≡◌, ℕ, ◌<◌, arith, true, false, Option, Some, None, refl, sym, ap, ◌∙◌, map, length, slice_get, option_map}
 use Rattle.std.proofs.lemmas.List.{length-map}
 use Rattle.std.proofs.lemmas.Option.{none-some, slice_get-map, slice_get_within}
 use Rattle.ds_script.specs.declared.actor.ActorKind.{ActorKind}
@@ -30,12 +30,12 @@ proc_host w h i (Some (Running host)) e x there =
     let within : i < length (map (plain_process host.desk.here host.desk.desk.rows) host.procs) = slice_get_within (map (plain_process host.desk.here host.desk.desk.rows) host.procs) i x there in
     record { host = host; node = e; within = omega (arith, within, length-map host.procs (plain_process host.desk.here host.desk.desk.rows)) }
 
-module _ (v w : WorldState) (is_v : IsWorld v) (is_w : IsWorld w) (same : w.doc ≡ without_events v.doc) where
+module _ (v w : WorldState) (is_v : IsWorld v) (is_w : IsWorld w) (copied : w.doc ≡ without_events v.doc) where
   plan_is : (h : ℕ) → host_plan (plan_of w.doc) h ≡ host_plan (plan_of v.doc) h
-  plan_is h = ap (λ (d : Doc). host_plan (plan_of d) h) same
+  plan_is h = ap (λ (d : Doc). host_plan (plan_of d) h) copied
 
   as_many : length v.nodes ≡ length w.nodes
-  as_many = is_v.hosts ∙ sym (ap (λ (d : Doc). length d.hosts) same) ∙ sym is_w.hosts
+  as_many = is_v.hosts ∙ sym (ap (λ (d : Doc). length d.hosts) copied) ∙ sym is_w.hosts
 
   proc_stays : (h i : ℕ) (host : HostState) → slice_get v.nodes h ≡ Some (Running host) → i < length host.procs → (x : NodeState) → slice_get w.nodes h ≡ Some x
       → (y : Process) × (proc_in (option_map plain_host (Some x)) i ≡ Some y)
@@ -58,6 +58,8 @@ module _ (v w : WorldState) (is_v : IsWorld v) (is_w : IsWorld w) (same : w.doc 
       let within : h < length v.nodes = slice_get_within v.nodes h (Running at_host.host) at_host.node in
       let node : (x : NodeState) × (slice_get w.nodes h ≡ Some x) = inside w.nodes h (omega (arith, within, as_many)) in
       let found : (y : Process) × (proc_in (option_map plain_host (Some node.0)) i ≡ Some y) = proc_stays h i at_host.host at_host.node at_host.within node.0 node.1 in
-      (found.0, ap (λ (o : Option Host). proc_in o i) (slice_get-map plain_host w.nodes h ∙ ap (option_map plain_host) node.1) ∙ found.1)
+      let same : proc_in (slice_get (map plain_host w.nodes) h) i ≡ proc_in (option_map plain_host (Some node.0)) i =
+      ap (λ (o : Option Host). proc_in o i) (slice_get-map plain_host w.nodes h ∙ ap (option_map plain_host) node.1) in
+      (found.0, same ∙ found.1)
   stays kinds.Lane h i has = has
   stays kinds.Conn h i has = has

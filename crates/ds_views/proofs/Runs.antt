@@ -1,5 +1,5 @@
 -- A run of a copy of a document, and what an actor sees at its end.
-use Rattle.std.proofs.Common.{◌≡◌, ◌∙◌, List, Option, Some, ap, ap₂, subst, sym}
+use Rattle.std.proofs.Common.{◌≡◌, ◌∙◌, List, Option, Some, ap, ap₂, subst}
 use Rattle.std.specs.Prelude.{Result, IfOk}
 use Rattle.ds_script.specs.declared.actor.Actor.{Actor}
 use Rattle.ds_model.specs.Plan.{Plan}

@@ -21,7 +21,8 @@ fn copy_address(address: &Option<Bytes>) -> Result<Option<Bytes>, AllocError>
     }
 }
 
-fn copy_categories(alloc: Global, rows: &[Category]) -> Result<CategoryList, AllocError>
+/// The same categories. `AllocError` where memory runs out.
+pub(crate) fn copy_categories(alloc: Global, rows: &[Category]) -> Result<CategoryList, AllocError>
     ensures { IfOk result (λ copies. copies ≡ rows.now) }
 {
     Ok(CategoryList::from_vec(rows.to_vec(alloc)?))

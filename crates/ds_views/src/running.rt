@@ -27,6 +27,7 @@ fn run_of(alloc: Global, doc: &Doc, events: &EventList) -> Result<World, AllocEr
     ensures doc { IfOk result (λ world. world.doc ≡ without_events doc.now) }
     ensures end { IfOk result (λ world. world_of world ≡ end_of doc.now (map meant events.now)) }
 {
+    // No list has 2^64 events.
     let _count = events.len();
     let copy = copy_without_events(alloc, doc)?;
     let mut world = setup(alloc, copy)?;

@@ -14,12 +14,12 @@ ghost use Rattle.ds_world.specs.Worlds.{world_of};
 ghost use Rattle.ds_views.specs.Views.{HasActor, node_view, view_of};
 
 use crate::actor_view::{HostView, ProcView, View};
+use crate::copying::copy_categories;
 use ds_chain::{AddressList, CertList};
 use ds_desk::{DeskState, IssuedList};
 use ds_exporter::{Exporter, ProcPart};
 use ds_hosts::Node;
 use ds_inlet::Conn;
-use ds_label::Category;
 use ds_map::MapTable;
 use ds_plan::CategoryList;
 use ds_script::{Actor, ActorKind, BytesList, NoteList};
@@ -112,20 +112,13 @@ fn all_arrived(alloc: Global, conns: &[Conn]) -> Result<BytesList, AllocError>
     Ok(all)
 }
 
-/// The same categories. `AllocError` where memory runs out.
-fn copy_rows(alloc: Global, rows: &[Category]) -> Result<CategoryList, AllocError>
-    ensures { IfOk result (λ copies. copies ≡ rows.now) }
-{
-    Ok(CategoryList::from_vec(rows.to_vec(alloc)?))
-}
-
 /// What a running host sees.
 fn view_of_desk(alloc: Global, desk: &DeskState, arrived: BytesList) -> Result<HostView, AllocError>
     ensures { IfOk result (λ v. v ≡ host_view (desk_of desk.now) arrived) }
 {
     Ok(HostView {
         moment: desk.moment,
-        rows: copy_rows(alloc, desk.table.rows())?,
+        rows: copy_categories(alloc, desk.table.rows())?,
         store: desk.store.copy()?,
         addresses: desk.addresses.copy()?,
         issued: desk.issued.copy()?,

@@ -1,4 +1,4 @@
-use Rattle.std.proofs.Common.{◌≡◌, ◌∙◌, map, sym, subst, arith}
+use Rattle.std.proofs.Common.{map, sym, subst}
 use Rattle.ds_plan.specs.Documents.{IsDocument}
 use Rattle.ds_setup.specs.Events.{meant}
 use Rattle.ds_sim.proofs.Begun.{without_is}
@@ -11,4 +11,4 @@ setup-requires c = subst IsDocument (sym c.in_ok-copy.ensures) (without_is c.arg
 pub returns-clause-end : goal.returns-clause-end
 returns-clause-end c =
     ends_so c.args.doc.now c.in_ok-copy.copy c.in_ok-world.world c.run.new.self (map meant c.args.events.now)
-    c.in_ok-copy.ensures c.in_ok-world.ensures.doc (c.in_ok-world.ensures.start) c.in_ok-run.ensures.ok
+    c.in_ok-copy.ensures c.in_ok-world.ensures.doc c.in_ok-world.ensures.start c.in_ok-run.ensures.ok

@@ -1,4 +1,4 @@
-use Rattle.std.proofs.Common.{◌≡◌, ◌∙◌, map, sym, ap, subst}
+use Rattle.std.proofs.Common.{◌∙◌, map, sym, ap, subst}
 use Rattle.ds_plan.specs.Documents.{IsDocument}
 use Rattle.ds_setup.specs.Events.{meant}
 use Rattle.ds_plan.specs.declared.doc.Doc.{Doc}
