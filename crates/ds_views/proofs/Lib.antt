@@ -1,0 +1,5 @@
+pub mod Lookups
+pub mod Arrivals
+pub mod Actors
+pub mod Runs
+pub mod Apart
