@@ -1,7 +1,7 @@
 #!/usr/bin/env python3
 """Compares the texts that two programs print of random runs: valid documents of several hosts.
 
-    runs_compare.py OURS REFERENCE SEED COUNT [--workers N] [--shrink] [--keep FOLDER]
+    runs_compare.py OURS REFERENCE SEED COUNT [--workers N] [--seconds N] [--shrink] [--keep FOLDER]
 
 Both are run as `PROGRAM sim`, a document on standard input, and their whole answers are compared. The documents have
 processes with scripts, mailboxes, lanes, inlets, links, certificates and delegations, and a list of events or none.
@@ -11,7 +11,7 @@ streams. What never came up is listed, so that it shows what was compared.
 
 Each difference is printed at once with its number, and the document is written to FOLDER (default: here) as
 differ-SEED-NUMBER.json. With --shrink a smaller document with a difference is written too, as small-SEED-NUMBER.json.
-With `-` in place of OURS only the reference runs, for the tally.
+With `-` in place of OURS only the reference runs, for the tally. With --seconds no document is begun after so long.
 """
 import collections
 import copy
@@ -21,6 +21,7 @@ import random
 import subprocess
 import sys
 import tempfile
+import time
 from concurrent.futures import ThreadPoolExecutor
 
 import records
@@ -838,6 +839,7 @@ def main():
     words = [word for word in words if word != "--shrink"]
     workers = int(option(words, "--workers", os.cpu_count()))
     keep = option(words, "--keep", ".")
+    latest = time.monotonic() + float(option(words, "--seconds", FOREVER))
     if len(words) != 4:
         sys.exit(__doc__)
     ours = None if words[0] == "-" else os.path.abspath(words[0])
@@ -845,6 +847,8 @@ def main():
     seed, count = int(words[2]), int(words[3])
 
     def one(number):
+        if time.monotonic() > latest:
+            return number, None, None, None
         document = document_of(seed * 1000003 + number)
         spelt = json.dumps(document, ensure_ascii=number % 2 == 0).encode()
         theirs = answer(reference, spelt)
@@ -864,6 +868,8 @@ def main():
         else:
             seen = map(one, batch)
         for place, document, theirs, mine in seen:
+            if document is None:
+                continue
             statuses[theirs[0]] += 1
             if theirs[0] != 0:
                 print(f"{place}: the reference refuses it: {theirs[2].decode().strip()}", flush=True)
@@ -885,7 +891,7 @@ def main():
                     with open(os.path.join(keep, f"small-{seed}-{place}.json"), "w") as file:
                         json.dump(smaller(document, differs), file)
     show(tally)
-    print(f"compared {count} from seed {seed}, differ {differ}, by the reference's status {dict(statuses)}")
+    print(f"compared {sum(statuses.values())} from seed {seed}, differ {differ}, by the reference's status {dict(statuses)}")
     sys.exit(1 if differ else 0)
 
 
