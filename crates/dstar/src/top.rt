@@ -43,7 +43,7 @@ fn call_of(words: &[String]) -> Option<Call>
 ///
 /// | words | input | what is written |
 /// |---|---|---|
-/// | `sim` | a document | the text of the document's run by the canonical schedule |
+/// | `sim` | a document | the text of the document's run, by its events or else by the canonical schedule |
 /// | `keygen T I` | a secret in hex | `key HEX` and `next Q` |
 /// | `sign T I` | a secret in hex, a line feed, a message | `q Q` and the signature in hex |
 /// | `verify` | a key and a signature in hex, a line each, and a message | `good`, or `bad NAME` |
