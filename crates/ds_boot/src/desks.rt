@@ -17,7 +17,7 @@ ghost use Rattle.ds_boot.specs.Signers.{identity_tree, signing_at};
 
 use crate::certs::KeptCert;
 use ds_cert::{Address, Cert, Delegation, show_key};
-use ds_chain::{AddressList, CertList, ListFault};
+use ds_chain::{AddressList, CertBook, ListFault};
 use ds_desk::{DeskState, IssuedList};
 use ds_label::{Category, PubKey};
 use ds_map::{MapFault, MapTable};
@@ -77,7 +77,7 @@ pub fn table_of(alloc: Global, here: PubKey, rows: &[Category]) -> Result<MapTab
 // ---- certificates
 
 /// Keeps a delegation, of fewer than 256.
-fn keep_delegation(store: &mut CertList, delegation: Delegation) -> Result<(), AllocError>
+fn keep_delegation(store: &mut CertBook, delegation: Delegation) -> Result<(), AllocError>
     requires range { DelegationRange delegation }
     requires few { length store.old.items < 256 }
     ensures kept { OnOk result (store.new.items ≡ with_delegation delegation store.old.items) }
@@ -91,7 +91,7 @@ fn keep_delegation(store: &mut CertList, delegation: Delegation) -> Result<(), A
 }
 
 /// Keeps a certificate of the document where it is a delegation for the host at a place.
-fn store_cert(store: &mut CertList, place: u32, kept: &KeptCert) -> Result<(), AllocError>
+fn store_cert(store: &mut CertBook, place: u32, kept: &KeptCert) -> Result<(), AllocError>
     requires range { CertRange kept.now.cert }
     requires few { length store.old.items < 256 }
     ensures kept { OnOk result (store.new.items ≡ with_delegations store.old.items (delegations_for place kept.now)) }
@@ -107,12 +107,12 @@ fn store_cert(store: &mut CertList, place: u32, kept: &KeptCert) -> Result<(), A
 }
 
 /// The delegations that the host at a place keeps. `AllocError` where memory runs out.
-fn store_of(alloc: Global, place: u32, certs: &[KeptCert]) -> Result<CertList, AllocError>
+fn store_of(alloc: Global, place: u32, certs: &[KeptCert]) -> Result<CertBook, AllocError>
     requires range { All (λ c. CertRange c.cert) certs.now }
     requires few { length certs.now ≤ 256 }
     ensures { IfOk result (λ l. l.items ≡ with_delegations [] (flat_map (delegations_for place) certs.now)) }
 {
-    let mut store = CertList::new(alloc);
+    let mut store = CertBook::new(alloc)?;
     for kept in certs {
         store_cert(&mut store, place, kept)?;
     }

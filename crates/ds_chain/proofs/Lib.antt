@@ -8,3 +8,6 @@ pub mod Numbered
 pub mod Examples
 pub mod Stores
 pub mod Delegations
+pub mod Listings
+pub mod Kept
+pub mod Cached

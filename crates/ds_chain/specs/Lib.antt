@@ -8,3 +8,5 @@ pub mod Naming
 pub mod Stored
 pub mod Delegated
 pub mod Addresses
+pub mod Postings
+pub mod Answers

@@ -136,8 +136,13 @@ impl CertList {
         Ok(())
     }
 
+    /// The allocator that the list came with.
+    pub(crate) fn allocator(&self) -> Global {
+        *self.certs.allocator()
+    }
+
     /// Adds a new delegation, for which there is room. Takes no memory.
-    fn keep(&mut self, cert: Delegation)
+    pub(crate) fn keep(&mut self, cert: Delegation)
         requires range { DelegationRange cert }
         requires few { length self.old.items < 256 }
         requires new { is_kept_in cert self.old.items ≡ false }

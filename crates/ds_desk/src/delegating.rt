@@ -22,14 +22,14 @@ use crate::fault::DeskFault;
 use crate::importing::keep_delegation;
 use crate::state::DeskState;
 use ds_base::Keeper;
-use ds_chain::{CERT_LIMIT, CertList};
+use ds_chain::{CERT_LIMIT, CertBook};
 use ds_label::{Category, PubKey, Rule};
 use ds_script::Actor;
 use ds_wire::Bytes;
 use lms_state::{SignFault, Signer};
 
 /// The first rule that refuses to make a delegation.
-fn delegate_rule(store: &CertList, signer: &Signer) -> Option<Rule>
+fn delegate_rule(store: &CertBook, signer: &Signer) -> Option<Rule>
     ensures { result ≡ first_rule (unless (nat_lt (length store.now.items) store_limit) rules.StoreFull
         ∷ unless (nat_lt signer.now.next (leaves_of signer.now.key)) rules.KeySpent ∷ []) }
 {

@@ -18,12 +18,12 @@ use crate::act::{DeskChange, DeskEntry};
 use crate::fault::EntryFault;
 use crate::state::DeskState;
 use ds_cert::{Address, Cert, CertFault, Delegation};
-use ds_chain::{ADDRESS_LIMIT, AddressList, CERT_LIMIT, CertList};
+use ds_chain::{ADDRESS_LIMIT, AddressList, CERT_LIMIT, CertBook};
 use ds_label::Rule;
 use ds_script::Actor;
 
 /// The first rule that refuses a delegation.
-fn delegation_rule(store: &CertList, new: &Delegation) -> Option<Rule>
+fn delegation_rule(store: &CertBook, new: &Delegation) -> Option<Rule>
     ensures { result ≡ first_rule (unless (is_good_delegation new.now) rules.BadCert
         ∷ unless (is_kept new.now store.now.items || nat_lt (length store.now.items) store_limit) rules.StoreFull ∷ []) }
 {
@@ -52,7 +52,7 @@ fn address_rule(addresses: &AddressList, cert: &Address) -> Option<Rule>
 }
 
 /// Keeps a delegation, for which there is room.
-pub(crate) fn keep_delegation(store: &mut CertList, new: Delegation)
+pub(crate) fn keep_delegation(store: &mut CertBook, new: Delegation)
     requires range { DelegationRange new }
     requires few { (is_kept new store.old.items || nat_lt (length store.old.items) store_limit) ≡ true }
     requires room { 0 < store.old.spare }

@@ -8,7 +8,7 @@ ghost use Rattle.ds_desk.specs.Desks.{IsKept, kept_of, desk_of, desk_then, last_
 use crate::history::DeskHistory;
 use crate::issued::IssuedList;
 use crate::opening::DeskOpening;
-use ds_chain::{AddressList, CertList};
+use ds_chain::{AddressList, CertBook};
 use ds_label::PubKey;
 use ds_map::MapTable;
 use lms_state::Signer;
@@ -24,7 +24,7 @@ pub struct DeskState {
     /// The moment, in seconds. It never falls.
     pub moment: u64,
     /// The delegations that it keeps.
-    pub store: CertList,
+    pub store: CertBook,
     /// The address certificates that it keeps.
     pub addresses: AddressList,
     /// The delegations that it made.
@@ -45,7 +45,7 @@ impl DeskState {
     pub fn new(
         here: PubKey,
         moment: u64,
-        store: CertList,
+        store: CertBook,
         addresses: AddressList,
         issued: IssuedList,
         table: MapTable,
@@ -63,7 +63,7 @@ impl DeskState {
         let alloc = issued.allocator();
         let opening = DeskOpening {
             moment,
-            store: store.copy()?,
+            store: store.list().copy()?,
             addresses: addresses.copy()?,
             issued: issued.copy()?,
             table: table.copy()?,

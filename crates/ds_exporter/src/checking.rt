@@ -20,15 +20,16 @@ use std::alloc::{AllocError, Global};
 /// The rule by which the desk drops the messages of a lane with this certificate, if one fails.
 pub(crate) fn frame_rule(
     alloc: Global,
-    desk: &DeskState,
+    desk: &mut DeskState,
     cert: &LaneCert,
 ) -> Result<Option<Rule>, AllocError>
-    ensures { IfOk result (λ rule. rule ≡ lane_rule (desk_of desk.now) cert.now) }
+    ensures rule { IfOk result (λ rule. rule ≡ lane_rule (desk_of desk.old) cert.now) }
+    ensures same { desk.new ≡ desk.old }
 {
     match judge_frame(
         alloc,
         &desk.addresses,
-        &desk.store,
+        &mut desk.store,
         desk.moment,
         &cert.receiver,
         &cert.label,

@@ -88,7 +88,7 @@ impl Exporter {
         judge_at(
             &mut self.parts.conns,
             place,
-            &self.parts.desk,
+            &mut self.parts.desk,
             &self.parts.boxes,
         )?;
         self.parts.desk.look(stamp, who);

@@ -61,9 +61,10 @@ fn worker_at(lanes: &LaneList, place: usize) -> Actor
 }
 
 /// The rule by which the desk drops what is in the hand of the worker of the lane at a place, if one fails.
-fn rule_at(desk: &DeskState, lanes: &LaneList, place: usize) -> Result<Option<Rule>, AllocError>
+fn rule_at(desk: &mut DeskState, lanes: &LaneList, place: usize) -> Result<Option<Rule>, AllocError>
     requires { place < length lanes.now.items }
-    ensures { IfOk result (λ rule. (l : HostLane) → slice_get (map lane_of lanes.now.items) place ≡ Some l → rule ≡ lane_rule (desk_of desk.now) l.worker.cert) }
+    ensures rule { IfOk result (λ rule. (l : HostLane) → slice_get (map lane_of lanes.now.items) place ≡ Some l → rule ≡ lane_rule (desk_of desk.old) l.worker.cert) }
+    ensures same { desk.new ≡ desk.old }
 {
     frame_rule(*lanes.allocator(), desk, lanes[place].end.cert())
 }
@@ -132,7 +133,7 @@ impl Exporter {
         ensures untouched { result ≡ Err CoreFault.NoMemory → keeper.new ≡ keeper.old }
     {
         self.parts.desk.reserve()?;
-        let rule = rule_at(&self.parts.desk, &self.parts.lanes, place)?;
+        let rule = rule_at(&mut self.parts.desk, &self.parts.lanes, place)?;
         let who = worker_at(&self.parts.lanes, place);
         settle_at(&mut self.parts.lanes, place, stamp, rule, keeper)?;
         self.parts.desk.look(stamp, who);

@@ -24,16 +24,17 @@ use std::alloc::{AllocError, Global};
 /// The first rule of arrival that a message breaks, where its lane has that certificate.
 fn arrival_rule(
     alloc: Global,
-    desk: &DeskState,
+    desk: &mut DeskState,
     lane: &LaneCert,
     message: &Message,
 ) -> Result<Option<Rule>, AllocError>
-    requires { (kept_of desk.now).table ≡ (kept_of desk.now).here }
-    ensures { IfOk result (λ rule. rule ≡ arrival_rule (kept_of desk.now) lane.now message.now) }
+    requires { (kept_of desk.old).table ≡ (kept_of desk.old).here }
+    ensures rule { IfOk result (λ rule. rule ≡ arrival_rule (kept_of desk.old) lane.now message.now) }
+    ensures same { desk.new ≡ desk.old }
 {
     match judge_arrive(
         alloc,
-        &desk.store,
+        &mut desk.store,
         &desk.table,
         desk.moment,
         &desk.here,
@@ -70,15 +71,16 @@ fn local_mail(
 /// slot. Where all pass it gives the message in the host's own numbers.
 fn judge(
     alloc: Global,
-    desk: &DeskState,
+    desk: &mut DeskState,
     boxes: &BoxList,
     lane: &LaneCert,
     message: &Message,
 ) -> Result<Result<LocalMessage, Rule>, AllocError>
-    requires table { (kept_of desk.now).table ≡ (kept_of desk.now).here }
-    requires named { All (IsBoxNamed (kept_of desk.now).here (kept_of desk.now).desk.rows) (map box_of boxes.now.items) }
+    requires table { (kept_of desk.old).table ≡ (kept_of desk.old).here }
+    requires named { All (IsBoxNamed (kept_of desk.old).here (kept_of desk.old).desk.rows) (map box_of boxes.now.items) }
     requires range { MessageRange message.now }
-    ensures { IfOk result (λ verdict. IsVerdict (kept_of desk.now) (map box_of boxes.now.items) lane.now message.now verdict) }
+    ensures verdict { IfOk result (λ verdict. IsVerdict (kept_of desk.old) (map box_of boxes.now.items) lane.now message.now verdict) }
+    ensures same { desk.new ≡ desk.old }
 {
     let _rows = desk.table.rows();
     let _label = message.label.as_slice();
@@ -97,15 +99,16 @@ fn judge(
 
 /// Judges the first message of a connection's hand.
 fn judge_front(
-    desk: &DeskState,
+    desk: &mut DeskState,
     boxes: &BoxList,
     conn: &Conn,
 ) -> Result<Result<LocalMessage, Rule>, AllocError>
-    requires table { (kept_of desk.now).table ≡ (kept_of desk.now).here }
-    requires named { All (IsBoxNamed (kept_of desk.now).here (kept_of desk.now).desk.rows) (map box_of boxes.now.items) }
+    requires table { (kept_of desk.old).table ≡ (kept_of desk.old).here }
+    requires named { All (IsBoxNamed (kept_of desk.old).here (kept_of desk.old).desk.rows) (map box_of boxes.now.items) }
     requires some { 0 < length conn.now.conn.hand }
     requires hello { HasHelloFirst conn.now.conn }
-    ensures { IfOk result (IsFrontJudged (kept_of desk.now) (map box_of boxes.now.items) conn.now.conn) }
+    ensures verdict { IfOk result (IsFrontJudged (kept_of desk.old) (map box_of boxes.now.items) conn.now.conn) }
+    ensures same { desk.new ≡ desk.old }
 {
     conn.is_read_so_far();
     let Some(message) = conn.front() else {
@@ -120,13 +123,14 @@ fn judge_front(
 
 /// The first message of a connection's hand is judged: it passes on, or is dropped. `AllocError` where memory runs out; nothing
 /// changed then.
-fn judge_next(conn: &mut Conn, desk: &DeskState, boxes: &BoxList) -> Result<(), AllocError>
-    requires table { (kept_of desk.now).table ≡ (kept_of desk.now).here }
-    requires named { All (IsBoxNamed (kept_of desk.now).here (kept_of desk.now).desk.rows) (map box_of boxes.now.items) }
+fn judge_next(conn: &mut Conn, desk: &mut DeskState, boxes: &BoxList) -> Result<(), AllocError>
+    requires table { (kept_of desk.old).table ≡ (kept_of desk.old).here }
+    requires named { All (IsBoxNamed (kept_of desk.old).here (kept_of desk.old).desk.rows) (map box_of boxes.now.items) }
     requires some { 0 < length conn.old.conn.hand }
     requires hello { HasHelloFirst conn.old.conn }
-    ensures ok { OnOk result (IsJudged (kept_of desk.now) (map box_of boxes.now.items) conn.old.conn conn.new.conn) }
+    ensures ok { OnOk result (IsJudged (kept_of desk.old) (map box_of boxes.now.items) conn.old.conn conn.new.conn) }
     ensures err { OnErr result (conn.new.conn ≡ conn.old.conn) }
+    ensures same { desk.new ≡ desk.old }
 {
     conn.reserve()?;
     match judge_front(desk, boxes, conn)? {
@@ -145,15 +149,16 @@ fn judge_next(conn: &mut Conn, desk: &DeskState, boxes: &BoxList) -> Result<(), 
 pub(crate) fn judge_at(
     conns: &mut ConnList,
     place: usize,
-    desk: &DeskState,
+    desk: &mut DeskState,
     boxes: &BoxList,
 ) -> Result<(), AllocError>
     requires place { place < length conns.old.items }
-    requires table { (kept_of desk.now).table ≡ (kept_of desk.now).here }
-    requires named { All (IsBoxNamed (kept_of desk.now).here (kept_of desk.now).desk.rows) (map box_of boxes.now.items) }
+    requires table { (kept_of desk.old).table ≡ (kept_of desk.old).here }
+    requires named { All (IsBoxNamed (kept_of desk.old).here (kept_of desk.old).desk.rows) (map box_of boxes.now.items) }
     requires ready { (c : Connection) → slice_get (map connection_of conns.old.items) place ≡ Some c → (0 < length c.hand) × HasHelloFirst c }
-    ensures ok { OnOk result (IsJudgedAt (kept_of desk.now) (map box_of boxes.now.items) place (map connection_of conns.old.items) (map connection_of conns.new.items)) }
+    ensures ok { OnOk result (IsJudgedAt (kept_of desk.old) (map box_of boxes.now.items) place (map connection_of conns.old.items) (map connection_of conns.new.items)) }
     ensures err { OnErr result (map connection_of conns.new.items ≡ map connection_of conns.old.items) }
+    ensures same { desk.new ≡ desk.old }
 {
     judge_next(&mut conns[place], desk, boxes)?;
     Ok(())

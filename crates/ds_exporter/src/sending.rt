@@ -37,19 +37,20 @@ fn number_for(lanes: &LaneList, message: &Message) -> Option<u32>
 
 /// The first rule of a send that a message breaks.
 fn send_rule(
-    desk: &DeskState,
+    desk: &mut DeskState,
     lanes: &LaneList,
     message: &Message,
     lane: Option<u32>,
 ) -> Result<Option<Rule>, AllocError>
     requires { FindsLane (map lane_of lanes.now.items) message.now lane }
-    ensures { IfOk result (λ rule. rule ≡ send_rule (kept_of desk.now) (map lane_of lanes.now.items) message.now) }
+    ensures rule { IfOk result (λ rule. rule ≡ send_rule (kept_of desk.old) (map lane_of lanes.now.items) message.now) }
+    ensures same { desk.new ≡ desk.old }
 {
     match judge_send(
         *lanes.allocator(),
         lane,
         &desk.addresses,
-        &desk.store,
+        &mut desk.store,
         desk.moment,
         &message.to,
         &message.label,
@@ -73,11 +74,12 @@ fn show_parts(message: &Message)
 
 /// Judges a message to another host: the certificates that go with it, or the first rule that fails.
 fn judge_message(
-    desk: &DeskState,
+    desk: &mut DeskState,
     lanes: &LaneList,
     message: &Message,
 ) -> Result<Result<CertBytes, Rule>, AllocError>
-    ensures { IfOk result (λ verdict. IsSendVerdict (kept_of desk.now) (map lane_of lanes.now.items) message.now verdict) }
+    ensures verdict { IfOk result (λ verdict. IsSendVerdict (kept_of desk.old) (map lane_of lanes.now.items) message.now verdict) }
+    ensures same { desk.new ≡ desk.old }
 {
     let lane = number_for(lanes, message);
     if let Some(rule) = send_rule(desk, lanes, message, lane)? {
@@ -85,7 +87,7 @@ fn judge_message(
     }
     let certs = attach(
         *lanes.allocator(),
-        &desk.store,
+        &mut desk.store,
         desk.moment,
         &desk.here,
         &message.label,
@@ -150,7 +152,7 @@ impl Exporter {
         };
         self.parts.desk.reserve()?;
         reserve_proc(&mut self.parts.procs, index as usize)?;
-        let verdict = judge_message(&self.parts.desk, &self.parts.lanes, &message)?;
+        let verdict = judge_message(&mut self.parts.desk, &self.parts.lanes, &message)?;
         judged_at(&mut self.parts.procs, index as usize, message, verdict);
         self.parts.desk.look(stamp, who);
         Ok(())

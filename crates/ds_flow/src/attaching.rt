@@ -12,7 +12,7 @@ ghost use Rattle.ds_flow.specs.Asked.{attach_each, is_integrity, spelled_chain};
 ghost use Rattle.ds_flow.specs.Chains.{flow_scheme};
 
 use ds_cert::Delegation;
-use ds_chain::{CertList, search};
+use ds_chain::{CertBook, CertList};
 use ds_label::{Category, Kind, Label, PubKey};
 use ds_msg::CertBytes;
 use std::alloc::{AllocError, Global};
@@ -108,17 +108,18 @@ fn attach_places(
 fn attach_chain(
     alloc: Global,
     certs: &mut Attachments,
-    store: &CertList,
+    store: &mut CertBook,
     now: u64,
     here: &PubKey,
     category: &Category,
 ) -> Result<(), AllocError>
-    ensures { OnOk result (certs.new ≡ attach_all certs.old (spelled_chain store.now.items now here.now category.now)) }
+    ensures certs { OnOk result (certs.new ≡ attach_all certs.old (spelled_chain store.old.items now here.now category.now)) }
+    ensures same { store.new ≡ store.old }
 {
     let none = CertList::new(alloc);
-    match search(alloc, store, &none, now, category, here)? {
+    match store.search(&none, now, category, here)? {
         None => Ok(()),
-        Some(chain) => attach_places(certs, store, chain.places()),
+        Some(chain) => attach_places(certs, store.list(), chain.places()),
     }
 }
 
@@ -126,12 +127,13 @@ fn attach_chain(
 fn attach_members(
     alloc: Global,
     certs: &mut Attachments,
-    store: &CertList,
+    store: &mut CertBook,
     now: u64,
     here: &PubKey,
     members: &[Category],
 ) -> Result<(), AllocError>
-    ensures { OnOk result (certs.new ≡ attach_each (spelled_chain store.now.items now here.now) certs.old members.now) }
+    ensures certs { OnOk result (certs.new ≡ attach_each (spelled_chain store.old.items now here.now) certs.old members.now) }
+    ensures same { store.new ≡ store.old }
 {
     for c in members {
         attach_chain(alloc, certs, store, now, here, c)?;
@@ -143,12 +145,13 @@ fn attach_members(
 fn attach_integrity(
     alloc: Global,
     certs: &mut Attachments,
-    store: &CertList,
+    store: &mut CertBook,
     now: u64,
     here: &PubKey,
     label: &[Category],
 ) -> Result<(), AllocError>
-    ensures { OnOk result (certs.new ≡ attach_each (spelled_chain store.now.items now here.now) certs.old (filter is_integrity label.now)) }
+    ensures certs { OnOk result (certs.new ≡ attach_each (spelled_chain store.old.items now here.now) certs.old (filter is_integrity label.now)) }
+    ensures same { store.new ≡ store.old }
 {
     for c in label {
         if c.kind != Kind::Secrecy {
@@ -161,15 +164,16 @@ fn attach_integrity(
 /// The same for a label's integrity categories, an ownership and a clearance.
 fn attached(
     alloc: Global,
-    store: &CertList,
+    store: &mut CertBook,
     now: u64,
     here: &PubKey,
     label: &Label,
     own: &Label,
     clear: &Label,
 ) -> Result<Attachments, AllocError>
-    ensures { IfOk result (λ certs. certs ≡ attach_each (spelled_chain store.now.items now here.now)
-        (attach_each (spelled_chain store.now.items now here.now) (attach_each (spelled_chain store.now.items now here.now) [] (filter is_integrity label.now)) own.now) clear.now) }
+    ensures certs { IfOk result (λ certs. certs ≡ attach_each (spelled_chain store.old.items now here.now)
+        (attach_each (spelled_chain store.old.items now here.now) (attach_each (spelled_chain store.old.items now here.now) [] (filter is_integrity label.now)) own.now) clear.now) }
+    ensures same { store.new ≡ store.old }
 {
     let mut certs = Attachments::none(alloc);
     attach_integrity(alloc, &mut certs, store, now, here, label.as_slice())?;
@@ -184,16 +188,17 @@ fn attached(
 /// most 16, none twice, and each spells a delegation in range. `AllocError` where memory runs out.
 pub fn attach(
     alloc: Global,
-    store: &CertList,
+    store: &mut CertBook,
     now: u64,
     here: &PubKey,
     label: &Label,
     own: &Label,
     clear: &Label,
 ) -> Result<CertBytes, AllocError>
-    ensures certs { (s : Scheme) → IfOk result (λ certs. certs ≡ attach (flow_scheme s) store.now.items now here.now label.now own.now clear.now) }
+    ensures certs { (s : Scheme) → IfOk result (λ certs. certs ≡ attach (flow_scheme s) store.old.items now here.now label.now own.now clear.now) }
     ensures fits { IfOk result CertsFit }
     ensures bytes { IfOk result (AllByRecursion IsBytes) }
+    ensures same { store.new ≡ store.old }
 {
     let certs = attached(alloc, store, now, here, label, own, clear)?;
     Ok(certs.into_certs())

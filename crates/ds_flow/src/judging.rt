@@ -24,7 +24,7 @@ use crate::fault::FlowFault;
 use crate::holding::{first_integrity_not_held, first_not_held, first_not_trusted_with};
 use crate::shown::shown_by;
 use ds_cert::LaneCert;
-use ds_chain::{AddressList, CertList};
+use ds_chain::{AddressList, CertBook, CertList};
 use ds_label::{Category, Label, LocalLabel, PubKey, Rule};
 use ds_map::MapTable;
 use ds_msg::Message;
@@ -52,12 +52,13 @@ pub fn judge_send(
     alloc: Global,
     lane: Option<u32>,
     addresses: &AddressList,
-    store: &CertList,
+    store: &mut CertBook,
     now: u64,
     to: &PubKey,
     label: &Label,
 ) -> Result<(), FlowFault>
-    ensures { (s : Scheme) → Judges (judge_send (flow_scheme s) lane addresses.now.items store.now.items now to.now label.now) result }
+    ensures judged { (s : Scheme) → Judges (judge_send (flow_scheme s) lane addresses.now.items store.old.items now to.now label.now) result }
+    ensures same { store.new ≡ store.old }
 {
     let Some(_number) = lane else {
         return Err(FlowFault::Drop(Rule::NoLane));
@@ -67,20 +68,20 @@ pub fn judge_send(
 
 /// What is asked of a message that is to be framed, by the delegations that the host keeps and others.
 fn framing_judged(
-    alloc: Global,
     addresses: &AddressList,
-    store: &CertList,
+    store: &mut CertBook,
     extra: &CertList,
     now: u64,
     to: &PubKey,
     label: &Label,
 ) -> Result<(), FlowFault>
-    ensures { Judges (framing_rule addresses.now.items (store.now.items ++ extra.now.items) now to.now label.now) result }
+    ensures judged { Judges (framing_rule addresses.now.items (store.old.items ++ extra.now.items) now to.now label.now) result }
+    ensures same { store.new ≡ store.old }
 {
     if addresses.find(to, now).is_none() {
         return Err(FlowFault::Drop(Rule::NoAddress));
     }
-    let rule = first_not_trusted_with(alloc, store, extra, now, to, label.as_slice())?;
+    let rule = first_not_trusted_with(store, extra, now, to, label.as_slice())?;
     unless_dropped(rule)
 }
 
@@ -94,15 +95,16 @@ fn framing_judged(
 pub fn judge_frame(
     alloc: Global,
     addresses: &AddressList,
-    store: &CertList,
+    store: &mut CertBook,
     now: u64,
     to: &PubKey,
     label: &Label,
 ) -> Result<(), FlowFault>
-    ensures { (s : Scheme) → Judges (sender_rule (flow_scheme s) addresses.now.items store.now.items now to.now label.now) result }
+    ensures judged { (s : Scheme) → Judges (sender_rule (flow_scheme s) addresses.now.items store.old.items now to.now label.now) result }
+    ensures same { store.new ≡ store.old }
 {
     let none = CertList::new(alloc);
-    framing_judged(alloc, addresses, store, &none, now, to, label)
+    framing_judged(addresses, store, &none, now, to, label)
 }
 
 /// Whether both keys are equal.
@@ -143,25 +145,26 @@ fn lane_rule(now: u64, here: &PubKey, lane: &LaneCert, message: &Message) -> Opt
 /// doesn't hold by what the host keeps and the message shows.
 fn sender_trust_rule(
     alloc: Global,
-    store: &CertList,
+    store: &mut CertBook,
     now: u64,
     by: &PubKey,
     message: &Message,
 ) -> Result<Option<Rule>, AllocError>
-    ensures { IfOk result (λ rule. rule ≡ first_rule (
-        each_member (holds_integrity (store.now.items ++ kept_all [] (shown message.now.certs)) now by.now) rules.SenderNotTrusted message.now.label
-        ∷ each_member (holds_by (store.now.items ++ kept_all [] (shown message.now.certs)) now by.now) rules.SenderNotTrusted message.now.own
-        ∷ each_member (holds_by (store.now.items ++ kept_all [] (shown message.now.certs)) now by.now) rules.SenderNotTrusted message.now.clear ∷ [])) }
+    ensures rule { IfOk result (λ rule. rule ≡ first_rule (
+        each_member (holds_integrity (store.old.items ++ kept_all [] (shown message.now.certs)) now by.now) rules.SenderNotTrusted message.now.label
+        ∷ each_member (holds_by (store.old.items ++ kept_all [] (shown message.now.certs)) now by.now) rules.SenderNotTrusted message.now.own
+        ∷ each_member (holds_by (store.old.items ++ kept_all [] (shown message.now.certs)) now by.now) rules.SenderNotTrusted message.now.clear ∷ [])) }
+    ensures same { store.new ≡ store.old }
 {
     let extra = shown_by(alloc, &message.certs)?;
     let label = message.label.as_slice();
-    if let Some(rule) = first_integrity_not_held(alloc, store, &extra, now, by, label)? {
+    if let Some(rule) = first_integrity_not_held(store, &extra, now, by, label)? {
         return Ok(Some(rule));
     }
-    if let Some(rule) = first_not_held(alloc, store, &extra, now, by, message.own.as_slice())? {
+    if let Some(rule) = first_not_held(store, &extra, now, by, message.own.as_slice())? {
         return Ok(Some(rule));
     }
-    first_not_held(alloc, store, &extra, now, by, message.clear.as_slice())
+    first_not_held(store, &extra, now, by, message.clear.as_slice())
 }
 
 /// Whether the category is home or in a row of the table.
@@ -201,7 +204,7 @@ fn names_rule(table: &MapTable, message: &Message) -> Option<Rule>
 /// The first rule that a message that arrived breaks.
 fn first_broken(
     alloc: Global,
-    store: &CertList,
+    store: &mut CertBook,
     table: &MapTable,
     now: u64,
     here: &PubKey,
@@ -209,7 +212,8 @@ fn first_broken(
     message: &Message,
 ) -> Result<Option<Rule>, AllocError>
     requires { here.now ≡ table.now.here }
-    ensures { IfOk result (λ rule. rule ≡ arrival_rule (store.now.items ++ kept_all [] (shown message.now.certs)) table.now.rows now here.now lane.now message.now) }
+    ensures rule { IfOk result (λ rule. rule ≡ arrival_rule (store.old.items ++ kept_all [] (shown message.now.certs)) table.now.rows now here.now lane.now message.now) }
+    ensures same { store.new ≡ store.old }
 {
     if let Some(rule) = lane_rule(now, here, lane, message) {
         return Ok(Some(rule));
@@ -231,7 +235,7 @@ fn first_broken(
 /// the first such category. `NoMemory` where memory runs out.
 pub fn judge_arrive(
     alloc: Global,
-    store: &CertList,
+    store: &mut CertBook,
     table: &MapTable,
     now: u64,
     here: &PubKey,
@@ -239,7 +243,8 @@ pub fn judge_arrive(
     message: &Message,
 ) -> Result<(), FlowFault>
     requires { here.now ≡ table.now.here }
-    ensures { (s : Scheme) → Judges (receiver_rule (flow_scheme s) store.now.items table.now.rows now here.now lane.now message.now) result }
+    ensures judged { (s : Scheme) → Judges (receiver_rule (flow_scheme s) store.old.items table.now.rows now here.now lane.now message.now) result }
+    ensures same { store.new ≡ store.old }
 {
     unless_dropped(first_broken(alloc, store, table, now, here, lane, message)?)
 }

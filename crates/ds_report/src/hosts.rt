@@ -95,7 +95,7 @@ fn spelled(alloc: Global, desk: &DeskState) -> Result<Bytes, AllocError>
     ensures { IfOk result (λ bytes. bytes ≡ desk_spelled (desk_of desk.now)) }
 {
     let mut bytes = Bytes::new(alloc);
-    spell_store(&mut bytes, &desk.store)?;
+    spell_store(&mut bytes, desk.store.list())?;
     spell_addresses(&mut bytes, &desk.addresses)?;
     spell_rows(&mut bytes, desk.table.rows())?;
     Ok(bytes)

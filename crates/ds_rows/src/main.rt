@@ -81,7 +81,7 @@ fn answer(row: &mut Row<'_>, rt: &HostRuntime, names: &mut Names) {
         rows_frame::row(row, names);
         return;
     }
-    if is_among(row, "edges ladder chain store addresses") {
+    if is_among(row, "edges ladder chain book store addresses") {
         rows_chain::row(row, names);
         return;
     }

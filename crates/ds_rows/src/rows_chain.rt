@@ -7,7 +7,7 @@ use crate::names::{Names, pieces};
 use crate::reading::{Stop, at, small};
 use crate::row::Row;
 use ds_cert::{Address, Delegation};
-use ds_chain::{AddressList, CertList, Chain, EdgeList, ListFault, holds, search};
+use ds_chain::{AddressList, CertBook, CertList, Chain, EdgeList, ListFault, holds, search};
 use ds_label::{Category, PubKey};
 use ds_wire::Bytes;
 use std::alloc::{AllocError, Global};
@@ -101,6 +101,63 @@ pub(crate) fn store(row: &mut Row<'_>, names: &Names, place: usize) -> CertList 
         }
     }
     list
+}
+
+/// Adds the delegation that bytes spell to a book.
+fn add_kept(alloc: Global, book: &mut CertBook, bytes: &[u8]) -> Result<(), Stop> {
+    match Delegation::decode(alloc, bytes) {
+        Ok(cert) => {
+            let _ = book.add(cert);
+            Ok(())
+        }
+        Err(_) => Err(Stop::BadLine),
+    }
+}
+
+/// Adds the delegations of these names to a book.
+fn add_named(row: &mut Row<'_>, names: &Names, book: &mut CertBook, place: usize) {
+    for name in &row.parts(place, b',') {
+        let bytes = pieces(row.alloc, names, &[*name], 0);
+        if let Some(bytes) = row.got(bytes) {
+            let added = add_kept(row.alloc, book, &bytes);
+            let _ = row.got(added);
+        }
+    }
+}
+
+/// A book of the delegations of these names; none where memory ran out.
+pub(crate) fn kept(row: &mut Row<'_>, names: &Names, place: usize) -> Option<CertBook> {
+    let Ok(mut book) = CertBook::new(row.alloc) else {
+        row.full();
+        return None;
+    };
+    add_named(row, names, &mut book, place);
+    Some(book)
+}
+
+/// Asks a book for the chain to a key.
+fn asks(row: &mut Row<'_>, names: &Names, book: &mut CertBook, place: usize) {
+    let named = row.category(names, 1);
+    let holder = row.key(names, 2);
+    let now = row.number(place.saturating_add(1));
+    let extra = store(row, names, place.saturating_add(2));
+    let found = book.search(&extra, now, &named, &holder);
+    say_chain(row, found);
+}
+
+/// Adds to a book and asks it, as the words say.
+fn book(row: &mut Row<'_>, names: &Names) {
+    let Ok(mut book) = CertBook::new(row.alloc) else {
+        return row.full();
+    };
+    for place in 3..row.len() {
+        if row.is(place, "adds") {
+            add_named(row, names, &mut book, place.saturating_add(1));
+        }
+        if row.is(place, "at") {
+            asks(row, names, &mut book, place);
+        }
+    }
 }
 
 /// Adds the address certificate that bytes spell.
@@ -219,6 +276,7 @@ fn address(row: &mut Row<'_>, names: &Names) {
 }
 
 /// `edges to KEY by SIGNER:KEY ..`, `ladder N`, `chain LIST EXTRA at MOMENT CATEGORY KEY`, `store LIST`,
+/// `book CATEGORY KEY` and then any of `adds LIST` and `at MOMENT EXTRA`,
 /// `store CATEGORY fills N then MOMENT`, `addresses FRONT fills N then MOMENT`, `addresses LIST at MOMENT KEY`.
 pub(crate) fn row(row: &mut Row<'_>, names: &Names) {
     if row.is(0, "edges") {
@@ -231,6 +289,10 @@ pub(crate) fn row(row: &mut Row<'_>, names: &Names) {
     }
     if row.is(0, "chain") {
         chain(row, names);
+        return;
+    }
+    if row.is(0, "book") {
+        book(row, names);
         return;
     }
     if row.fits("store _ fills _ then _") {

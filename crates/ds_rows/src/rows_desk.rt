@@ -7,7 +7,7 @@ use crate::names::{Names, made_tree};
 use crate::row::Row;
 use ds_base::{Keeper, MemKeeper};
 use ds_cert::Delegation;
-use ds_chain::{AddressList, CertList};
+use ds_chain::{AddressList, CertBook};
 use ds_desk::{DeskChange, DeskFault, DeskState, EntryFault, IssuedList};
 use ds_label::{Category, PubKey};
 use ds_map::MapTable;
@@ -31,7 +31,7 @@ fn fresh(alloc: Global, signer: Signer) -> Result<DeskState, AllocError>
     DeskState::new(
         here,
         0,
-        CertList::new(alloc),
+        CertBook::new(alloc)?,
         AddressList::new(alloc),
         IssuedList::new(alloc),
         MapTable::new(alloc, here),

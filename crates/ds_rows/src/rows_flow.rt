@@ -3,9 +3,9 @@
 
 use crate::names::Names;
 use crate::row::Row;
-use crate::rows_chain::{addresses, store};
+use crate::rows_chain::{addresses, kept};
 use ds_cert::LaneCert;
-use ds_chain::CertList;
+use ds_chain::CertBook;
 use ds_flow::{FlowFault, attach, judge_arrive, judge_box, judge_frame, judge_send};
 use ds_label::{Label, PubKey, Rule};
 use ds_map::MapTable;
@@ -60,9 +60,11 @@ fn arrives(row: &mut Row<'_>, names: &Names) {
     let to = row.key(names, 7);
     let (member, own) = (row.label(names, 9), row.label(names, 11));
     let message = message(row.alloc, to, member, own);
-    let store = CertList::new(row.alloc);
+    let Ok(mut store) = CertBook::new(row.alloc) else {
+        return row.full();
+    };
     let table = MapTable::new(row.alloc, HERE);
-    let judged = judge_arrive(row.alloc, &store, &table, now, &HERE, &lane, &message);
+    let judged = judge_arrive(row.alloc, &mut store, &table, now, &HERE, &lane, &message);
     say_judged(row, judged);
 }
 
@@ -73,11 +75,13 @@ fn sends(row: &mut Row<'_>, names: &Names) {
     let now = row.number(5);
     let to = row.key(names, 7);
     let member = row.label(names, 9);
-    let store = CertList::new(row.alloc);
+    let Ok(mut store) = CertBook::new(row.alloc) else {
+        return row.full();
+    };
     let judged = if row.is(1, "sends") {
-        judge_send(row.alloc, lane, &known, &store, now, &to, &member)
+        judge_send(row.alloc, lane, &known, &mut store, now, &to, &member)
     } else {
-        judge_frame(row.alloc, &known, &store, now, &to, &member)
+        judge_frame(row.alloc, &known, &mut store, now, &to, &member)
     };
     say_judged(row, judged);
 }
@@ -103,11 +107,13 @@ fn mailbox(row: &mut Row<'_>) {
 
 /// How many certificates go with a message whose label and ownership are this.
 fn attaches(row: &mut Row<'_>, names: &Names) {
-    let list = store(row, names, 2);
+    let Some(mut store) = kept(row, names, 2) else {
+        return;
+    };
     let now = row.number(4);
     let member = row.label(names, 6);
     let none = Label::new(row.alloc);
-    match attach(row.alloc, &list, now, &HERE, &member, &member, &none) {
+    match attach(row.alloc, &mut store, now, &HERE, &member, &member, &none) {
         Ok(certs) => row.say_number(certs.len() as u64),
         Err(_) => row.full(),
     }

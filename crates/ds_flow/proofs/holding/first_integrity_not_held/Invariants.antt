@@ -5,4 +5,8 @@ use Rattle.ds_flow.specs.Asked.{holds_integrity}
 use Rattle.ds_flow.proofs.holding.first_integrity_not_held.Given as goal
 
 abbrev pub invariant-loop-c : goal.invariant-loop-c
-invariant-loop-c l = each_member (holds_integrity (l.store.items ++ l.extra.items) l.now l.by) rules.SenderNotTrusted (drop l.c-index l.label) ≡ each_member (holds_integrity (l.store.items ++ l.extra.items) l.now l.by) rules.SenderNotTrusted l.label
+invariant-loop-c l =
+    record {
+      rule : each_member (holds_integrity (l.initial.store.items ++ l.extra.items) l.now l.by) rules.SenderNotTrusted (drop l.c-index l.label) ≡ each_member (holds_integrity (l.initial.store.items ++ l.extra.items) l.now l.by) rules.SenderNotTrusted l.label;
+      same : l.store ≡ l.initial.store;
+    }

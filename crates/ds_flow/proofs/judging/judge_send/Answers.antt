@@ -8,7 +8,7 @@ use Rattle.ds_flow.specs.Judged.{Judges}
 use Rattle.ds_flow.proofs.Flows.{or_else_none}
 use Rattle.ds_flow.proofs.judging.judge_send.Goals as goal
 
-pub returns : goal.returns
-returns c s =
+pub returns-clause-judged : goal.returns-clause-judged
+returns-clause-judged c s =
     let rule : Option Rule = sender_rule (flow_scheme s) c.args.addresses.now.items c.args.store.now.items c.args.now c.args.to.now c.args.label.now in
-    subst (λ z. Judges z c.judge_frame.result) (sym (ap (λ o. or_else (lane_rule o) (or_else rule None)) c.in-Some.is ∙ or_else_none rule)) (c.judge_frame.ensures s)
+    subst (λ z. Judges z c.judge_frame.result) (sym (ap (λ o. or_else (lane_rule o) (or_else rule None)) c.in-Some.is ∙ or_else_none rule)) (c.judge_frame.ensures.judged s)

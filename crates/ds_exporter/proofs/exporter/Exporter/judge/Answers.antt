@@ -1,7 +1,8 @@
-use Rattle.std.proofs.Common.{◌≡◌, ◌∙◌, ap₂, sym, map, subst}
+use Rattle.std.proofs.Common.{◌≡◌, ◌∙◌, ap, ap₂, sym, map, subst}
 use Rattle.std.specs.Prelude.{All}
 use Rattle.ds_script.specs.declared.actor.Actor.{Actor}
 use Rattle.ds_model.specs.Desk.{Looked}
+use Rattle.ds_desk.specs.declared.state.DeskState.{DeskState}
 use Rattle.ds_desk.specs.Desks.{DeskView, entered, kept_of}
 use Rattle.ds_exporter.specs.HostStates.{HostState, box_of, connection_of, state_of}
 use Rattle.ds_exporter.specs.PlainHosts.{ends_of}
@@ -31,7 +32,7 @@ invariant_of-self-2 c =
     let within = rw (← c.self.view_is) at c.requires.there in
     let ready = rw (← c.self.view_is) at c.requires.ready in
     fits_judged_all e c.args.place c.args.stamp c.who_at-who.result (kept_of c.reserve.new.self) (kept_of c.look.new.self) (map connection_of c.judge_at.new.conns.items) within (λ k h. ready k h) c.self.invariant
-    c.in_ok-reserve.ensures.same c.look.ensures.entry (λ k h. c.in_ok-judge_at.ensures.ok k h) c.look.ensures.kept
+    c.in_ok-reserve.ensures.same (c.look.ensures.entry ∙ ap (λ (d : DeskState). entered c.args.stamp c.who_at-who.result Looked (kept_of d)) c.in_ok-judge_at.ensures.same) (λ k h. c.in_ok-judge_at.ensures.ok k h) c.look.ensures.kept
 
 pub returns-clause-ends : goal.returns-clause-ends
 returns-clause-ends c =
@@ -40,7 +41,7 @@ returns-clause-ends c =
     let ready = rw (← c.self.view_is) at c.requires.ready in
     λ link. subst (λ (s : HostState). ends_of link c.args.place (record e { desk = kept_of c.look.new.self; conns = map connection_of c.judge_at.new.conns.items }) ≡ delivered s c.args.place link) c.self.view_is
     (ends_judged_all e c.args.place c.args.stamp c.who_at-who.result (kept_of c.reserve.new.self) (kept_of c.look.new.self) (map connection_of c.judge_at.new.conns.items) within (λ k h. ready k h) c.self.invariant
-    c.in_ok-reserve.ensures.same c.look.ensures.entry (λ k h. c.in_ok-judge_at.ensures.ok k h) link)
+    c.in_ok-reserve.ensures.same (c.look.ensures.entry ∙ ap (λ (d : DeskState). entered c.args.stamp c.who_at-who.result Looked (kept_of d)) c.in_ok-judge_at.ensures.same) (λ k h. c.in_ok-judge_at.ensures.ok k h) link)
 
 pub returns-clause-changed : goal.returns-clause-changed
 returns-clause-changed c =
@@ -48,7 +49,7 @@ returns-clause-changed c =
     let within = rw (← c.self.view_is) at c.requires.there in
     let ready = rw (← c.self.view_is) at c.requires.ready in
     rw (← c.self.view_is) (λ link. changed_judged_all e c.args.place c.args.stamp c.who_at-who.result (kept_of c.reserve.new.self) (kept_of c.look.new.self) (map connection_of c.judge_at.new.conns.items) within (λ k h. ready k h) c.self.invariant
-    c.in_ok-reserve.ensures.same c.look.ensures.entry (λ k h. c.in_ok-judge_at.ensures.ok k h) link)
+    c.in_ok-reserve.ensures.same (c.look.ensures.entry ∙ ap (λ (d : DeskState). entered c.args.stamp c.who_at-who.result Looked (kept_of d)) c.in_ok-judge_at.ensures.same) (λ k h. c.in_ok-judge_at.ensures.ok k h) link)
 
 pub returns-clause-others : goal.returns-clause-others
 returns-clause-others c =
@@ -56,7 +57,7 @@ returns-clause-others c =
     let within = rw (← c.self.view_is) at c.requires.there in
     let ready = rw (← c.self.view_is) at c.requires.ready in
     rw (← c.self.view_is) (λ other apart. others_judged_all e c.args.place c.args.stamp c.who_at-who.result (kept_of c.reserve.new.self) (kept_of c.look.new.self) (map connection_of c.judge_at.new.conns.items) within (λ k h. ready k h) c.self.invariant
-    c.in_ok-reserve.ensures.same c.look.ensures.entry (λ k h. c.in_ok-judge_at.ensures.ok k h) other apart)
+    c.in_ok-reserve.ensures.same (c.look.ensures.entry ∙ ap (λ (d : DeskState). entered c.args.stamp c.who_at-who.result Looked (kept_of d)) c.in_ok-judge_at.ensures.same) (λ k h. c.in_ok-judge_at.ensures.ok k h) other apart)
 
 pub returns-clause-arrived : goal.returns-clause-arrived
 returns-clause-arrived c =
@@ -64,7 +65,7 @@ returns-clause-arrived c =
     let within = rw (← c.self.view_is) at c.requires.there in
     let ready = rw (← c.self.view_is) at c.requires.ready in
     rw (← c.self.view_is) (arrived_judged_all e c.args.place c.args.stamp c.who_at-who.result (kept_of c.reserve.new.self) (kept_of c.look.new.self) (map connection_of c.judge_at.new.conns.items) within (λ k h. ready k h) c.self.invariant
-    c.in_ok-reserve.ensures.same c.look.ensures.entry (λ k h. c.in_ok-judge_at.ensures.ok k h))
+    c.in_ok-reserve.ensures.same (c.look.ensures.entry ∙ ap (λ (d : DeskState). entered c.args.stamp c.who_at-who.result Looked (kept_of d)) c.in_ok-judge_at.ensures.same) (λ k h. c.in_ok-judge_at.ensures.ok k h))
 
 pub returns-clause-site : goal.returns-clause-site
 returns-clause-site c =
@@ -72,7 +73,7 @@ returns-clause-site c =
     let within = rw (← c.self.view_is) at c.requires.there in
     let ready = rw (← c.self.view_is) at c.requires.ready in
     rw (← c.self.view_is) (site_judged_all e c.args.place c.args.stamp c.who_at-who.result (kept_of c.reserve.new.self) (kept_of c.look.new.self) (map connection_of c.judge_at.new.conns.items) within (λ k h. ready k h) c.self.invariant
-    c.in_ok-reserve.ensures.same c.look.ensures.entry (λ k h. c.in_ok-judge_at.ensures.ok k h))
+    c.in_ok-reserve.ensures.same (c.look.ensures.entry ∙ ap (λ (d : DeskState). entered c.args.stamp c.who_at-who.result Looked (kept_of d)) c.in_ok-judge_at.ensures.same) (λ k h. c.in_ok-judge_at.ensures.ok k h))
 
 pub returns-clause-stamps : goal.returns-clause-stamps
 returns-clause-stamps c =
@@ -81,15 +82,15 @@ returns-clause-stamps c =
     let ready = rw (← c.self.view_is) at c.requires.ready in
     let below = rw (← c.self.view_is) at c.requires.later in
     below_judged_all e c.args.place c.args.stamp c.who_at-who.result (kept_of c.reserve.new.self) (kept_of c.look.new.self) (map connection_of c.judge_at.new.conns.items) within (λ k h. ready k h) c.self.invariant
-    c.in_ok-reserve.ensures.same c.look.ensures.entry (λ k h. c.in_ok-judge_at.ensures.ok k h) below c.look.ensures.last
+    c.in_ok-reserve.ensures.same (c.look.ensures.entry ∙ ap (λ (d : DeskState). entered c.args.stamp c.who_at-who.result Looked (kept_of d)) c.in_ok-judge_at.ensures.same) (λ k h. c.in_ok-judge_at.ensures.ok k h) below c.look.ensures.last
 
 pub returns-clause-looked : goal.returns-clause-looked
 returns-clause-looked c =
     rw (← c.self.view_is)
-    (λ k h. c.look.ensures.entry ∙ ap₂ (λ (who : Actor) (d : DeskView). entered c.args.stamp who Looked d) (c.who_at-who.ensures k h) c.in_ok-reserve.ensures.same)
+    (λ k h. (c.look.ensures.entry ∙ ap (λ (d : DeskState). entered c.args.stamp c.who_at-who.result Looked (kept_of d)) c.in_ok-judge_at.ensures.same) ∙ ap₂ (λ (who : Actor) (d : DeskView). entered c.args.stamp who Looked d) (c.who_at-who.ensures k h) c.in_ok-reserve.ensures.same)
 
 pub returns-clause-entered : goal.returns-clause-entered
 returns-clause-entered c =
     rw (← c.self.view_is)
     (λ k h. enters_at_desk c.args.stamp k.who Looked (state_of c.self.inside.parts) (kept_of c.look.new.self) (map connection_of c.judge_at.new.conns.items)
-    (c.look.ensures.entry ∙ ap₂ (λ (who : Actor) (d : DeskView). entered c.args.stamp who Looked d) (c.who_at-who.ensures k h) c.in_ok-reserve.ensures.same))
+    ((c.look.ensures.entry ∙ ap (λ (d : DeskState). entered c.args.stamp c.who_at-who.result Looked (kept_of d)) c.in_ok-judge_at.ensures.same) ∙ ap₂ (λ (who : Actor) (d : DeskView). entered c.args.stamp who Looked d) (c.who_at-who.ensures k h) c.in_ok-reserve.ensures.same))
