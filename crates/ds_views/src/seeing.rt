@@ -119,7 +119,7 @@ fn view_of_desk(alloc: Global, desk: &DeskState, arrived: BytesList) -> Result<H
     Ok(HostView {
         moment: desk.moment,
         rows: copy_categories(alloc, desk.table.rows())?,
-        store: desk.store.copy()?,
+        store: desk.store.list().copy()?,
         addresses: desk.addresses.copy()?,
         issued: desk.issued.copy()?,
         leaf: desk.signer.next(),
