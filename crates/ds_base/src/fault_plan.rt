@@ -56,7 +56,7 @@ impl FaultPlan {
         self.made
     }
 
-    /// Counts a fault that was not planned, as want of memory.
+    /// Counts a fault that was not planned, as memory that ran out.
     pub(crate) fn add_fault(&mut self)
         ensures { self.new ≡ record self.old { faults = one_more self.old.faults } }
     {
