@@ -251,7 +251,7 @@ fn has_key(members: &Map<String, Value>, name: &str) -> bool
 
 /// Whether there is a member of that name.
 #[tactic(auto, using(crate::proofs::Members::has_key))]
-fn has(members: &Map<String, Value>, name: &str) -> bool
+pub(crate) fn has(members: &Map<String, Value>, name: &str) -> bool
     ensures { result ≡ shapes.has (members_view members.now.entries) name.now }
 {
     has_key(members, name)

@@ -4,6 +4,7 @@ ghost use Rattle.std.specs.Prelude.{◌≡◌, map, option_map, IfOk};
 ghost use Rattle.ds_doc.specs.Places as places;
 ghost use Rattle.ds_doc.specs.Seen.{seen};
 
+use crate::judge::has;
 use crate::size::size;
 use serde_json::Value;
 use std::alloc::{AllocError, Global};
@@ -24,6 +25,9 @@ impl<'v> Spot<'v> {
         ensures { option_map seen result ≡ places.member name.now (seen self.now) }
     {
         let members = self.value.as_object()?;
+        if !has(members, name) {
+            return None;
+        }
         let mut at = self.at.saturating_add(1);
         for (key, value) in members.iter() {
             if key.as_str() == name {
