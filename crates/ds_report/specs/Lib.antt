@@ -7,3 +7,4 @@ pub mod Conns
 pub mod Hosts
 pub mod Laws
 pub mod Texts
+pub mod Events

@@ -3,6 +3,7 @@
 
 mod boxes;
 mod conns;
+mod events;
 mod hosts;
 mod inlets;
 mod lanes;
@@ -14,6 +15,7 @@ mod processes;
 
 pub use boxes::push_box;
 pub use conns::push_conn;
+pub use events::push_event;
 pub use hosts::push_host;
 pub use inlets::push_inlet;
 pub use lanes::push_lane;

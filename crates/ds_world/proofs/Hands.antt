@@ -35,11 +35,11 @@ all_hands (n ∷ nodes) all (suc host) x there = all_hands nodes all.1 host x th
 
 -- RUNS
 
-run_join : (plan : Plan) (w : World) (one two : List Event) → run scheme plan w (one ++ two) ≡ run scheme plan (run scheme plan w one) two
+pub run_join : (plan : Plan) (w : World) (one two : List Event) → run scheme plan w (one ++ two) ≡ run scheme plan (run scheme plan w one) two
 run_join plan w [] two = refl
 run_join plan w (e ∷ one) two = run_join plan (step scheme plan w e) one two
 
-spelled_join : (plan : Plan) (w : World) (one two : List Event) → AreSpelledAfter plan w one → AreSpelledAfter plan (run scheme plan w one) two
+pub spelled_join : (plan : Plan) (w : World) (one two : List Event) → AreSpelledAfter plan w one → AreSpelledAfter plan (run scheme plan w one) two
     → AreSpelledAfter plan w (one ++ two)
 spelled_join plan w [] two first later = later
 spelled_join plan w (e ∷ one) two first later = (first.0, spelled_join plan (step scheme plan w e) one two first.1 later)
@@ -50,7 +50,7 @@ spelled_at plan w [] [] all = all
 spelled_at plan w [] (e ∷ later) all = all.0
 spelled_at plan w (e ∷ before) later all = spelled_at plan (step scheme plan w e) before later all.1
 
-spelled_end : (plan : Plan) (w : World) (events : List Event) → AreSpelledAfter plan w events → HandsAreSpelled (run scheme plan w events)
+pub spelled_end : (plan : Plan) (w : World) (events : List Event) → AreSpelledAfter plan w events → HandsAreSpelled (run scheme plan w events)
 spelled_end plan w events all = spelled_at plan w events [] (subst (AreSpelledAfter plan w) (sym (append-nil events)) all)
 
 spells : (plan : Plan) (w : World) (events : List Event) → AreSpelledAfter plan w events → Spells scheme has_spelling plan w events
@@ -137,3 +137,6 @@ module _ (w v : WorldState) (m n : Making) (none : m.events ≡ []) (goes : Goes
 
   pub whole_count : v.count ≡ w.count + length n.events
   whole_count = goes.count ∙ ap (λ es. w.count + length es) (sym all_of_it)
+
+  pub whole_spelled : HandsAreSpelled (world_of w) → AreSpelledAfter (plan_of w.doc) (world_of w) (map meant n.events)
+  whole_spelled hands = subst (λ es. AreSpelledAfter (plan_of w.doc) (world_of w) (map meant es)) (sym all_of_it) (goes.spelled hands)

@@ -12,7 +12,7 @@ use Rattle.ds_model.specs.Step.{Event, Arrive, Accept, Deliver, run, step}
 use Rattle.ds_model.specs.Schedule.{Schedule, Test, all_connected, all_tried, bytes_left, connected, delivered, host_events, kept, round, rounds, tried, turned}
 
 -- a choice of two that both have a property
-choice : {A : Type 0} (P : A → Type 0) (b : Bool) (x y : A) → P x → P y → P (if b then x else y)
+pub choice : {A : Type 0} (P : A → Type 0) (b : Bool) (x y : A) → P x → P y → P (if b then x else y)
 choice P true x y p q = p
 choice P false x y p q = q
 
@@ -23,7 +23,7 @@ module _ (changes : Test) (s : Scheme) (plan : Plan) where
   attempt e sch = tried changes s plan e sch
 
   -- it is still, or no more may come
-  abbrev IsOver : Event → Schedule → Type 0
+  abbrev pub IsOver : Event → Schedule → Type 0
   IsOver e sch = (changes sch.world e ≡ false) ⊎ (sch.left ≡ 0)
 
   -- with the event, and so many left
@@ -41,15 +41,15 @@ module _ (changes : Test) (s : Scheme) (plan : Plan) where
   came e sch left q some = cond-true (changes sch.world e) (kept s plan e sch sch.left) sch q ∙ ap (kept s plan e sch) some
 
   -- it isn't kept, or it is
-  abbrev IsSkipped : Event → Schedule → Type 0
+  abbrev pub IsSkipped : Event → Schedule → Type 0
   IsSkipped e sch = (attempt e sch ≡ sch) × IsOver e sch
 
-  record IsKept (e : Event) (sch : Schedule) : Type 0 where
-    moves : changes sch.world e ≡ true
-    left : ℕ
-    is : attempt e sch ≡ with_event e sch left
+  pub record IsKept (e : Event) (sch : Schedule) : Type 0 where
+    pub moves : changes sch.world e ≡ true
+    pub left : ℕ
+    pub is : attempt e sch ≡ with_event e sch left
 
-  trial : (e : Event) (sch : Schedule) → IsSkipped e sch ⊎ IsKept e sch
+  pub trial : (e : Event) (sch : Schedule) → IsSkipped e sch ⊎ IsKept e sch
   trial e sch = go (changes sch.world e) refl sch.left refl
     where
       go : (b : Bool) → changes sch.world e ≡ b → (n : ℕ) → sch.left ≡ n → IsSkipped e sch ⊎ IsKept e sch
@@ -57,38 +57,38 @@ module _ (changes : Test) (s : Scheme) (plan : Plan) where
       go true q zero none = inl (full e sch none, inr none)
       go true q (suc n) some = inr (record { moves = q; left = n; is = came e sch n q some })
 
-  longer : (e : Event) (sch : Schedule) → IsKept e sch → length (attempt e sch).events ≡ length sch.events + 1
+  pub longer : (e : Event) (sch : Schedule) → IsKept e sch → length (attempt e sch).events ≡ length sch.events + 1
   longer e sch k = ap (λ (x : Schedule). length x.events) k.is ∙ length-append sch.events (e ∷ [])
 
   -- WHAT EVERY EVENT KEEPS, EACH PART KEEPS
 
   module _ (P : Schedule → Type 0) (keeps : (e : Event) (sch : Schedule) → P sch → P (attempt e sch)) where
-    all_tried_keeps : (events : List Event) (sch : Schedule) → P sch → P (all_tried changes s plan events sch)
+    pub all_tried_keeps : (events : List Event) (sch : Schedule) → P sch → P (all_tried changes s plan events sch)
     all_tried_keeps [] sch p = p
     all_tried_keeps (e ∷ events) sch p = all_tried_keeps events (attempt e sch) (keeps e sch p)
 
-    delivered_keeps : (k most : ℕ) (sch : Schedule) → P sch → P (delivered changes s plan k most sch)
+    pub delivered_keeps : (k most : ℕ) (sch : Schedule) → P sch → P (delivered changes s plan k most sch)
     delivered_keeps k zero sch p = p
     delivered_keeps k (suc most) sch p = choice P (changes sch.world (Deliver k)) (delivered changes s plan k most (attempt (Deliver k) sch)) sch
         (delivered_keeps k most (attempt (Deliver k) sch) (keeps (Deliver k) sch p)) p
 
-    turned_keeps : (k budget most : ℕ) (sch : Schedule) → P sch → P (turned changes s plan k budget most sch)
+    pub turned_keeps : (k budget most : ℕ) (sch : Schedule) → P sch → P (turned changes s plan k budget most sch)
     turned_keeps k budget zero sch p = p
     turned_keeps k budget (suc most) sch p =
         let next : Schedule = delivered changes s plan k budget (attempt (Accept k) sch) in
         choice P (changes sch.world (Accept k) || changes sch.world (Deliver k)) (turned changes s plan k budget most next) sch
         (turned_keeps k budget most next (delivered_keeps k budget (attempt (Accept k) sch) (keeps (Accept k) sch p))) p
 
-    connected_keeps : (budget k : ℕ) (sch : Schedule) → P sch → P (connected changes s plan budget k sch)
+    pub connected_keeps : (budget k : ℕ) (sch : Schedule) → P sch → P (connected changes s plan budget k sch)
     connected_keeps budget k sch p =
         let event : Event = Arrive k (bytes_left plan sch.world k) in
         turned_keeps k budget budget (attempt event sch) (keeps event sch p)
 
-    all_connected_keeps : (budget k : ℕ) (sch : Schedule) → P sch → P (all_connected changes s plan budget k sch)
+    pub all_connected_keeps : (budget k : ℕ) (sch : Schedule) → P sch → P (all_connected changes s plan budget k sch)
     all_connected_keeps budget zero sch p = p
     all_connected_keeps budget (suc k) sch p = connected_keeps budget k (all_connected changes s plan budget k sch) (all_connected_keeps budget k sch p)
 
-    round_keeps : (budget : ℕ) (sch : Schedule) → P sch → P (round changes s plan budget sch)
+    pub round_keeps : (budget : ℕ) (sch : Schedule) → P sch → P (round changes s plan budget sch)
     round_keeps budget sch p =
         let events : List Event = gathered (host_events plan) (length plan.hosts) in
         all_connected_keeps budget (length plan.conn_plans) (all_tried changes s plan events sch) (all_tried_keeps events sch p)
@@ -118,7 +118,7 @@ module _ (changes : Test) (s : Scheme) (plan : Plan) where
   no_delivery k (suc most) sch (inr none) = choice (λ (x : Schedule). x ≡ sch) (changes sch.world (Deliver k)) (deliveries k most (attempt (Deliver k) sch)) sch
       (ap (deliveries k most) (full (Deliver k) sch none) ∙ no_delivery k most sch (inr none)) refl
 
-  one_delivery : (k most : ℕ) (sch : Schedule) → changes sch.world (Deliver k) ≡ true
+  pub one_delivery : (k most : ℕ) (sch : Schedule) → changes sch.world (Deliver k) ≡ true
       → deliveries k (suc most) sch ≡ deliveries k most (attempt (Deliver k) sch)
   one_delivery k most sch q = cond-true (changes sch.world (Deliver k)) (deliveries k most (attempt (Deliver k) sch)) sch q
 
@@ -147,10 +147,10 @@ module _ (changes : Test) (s : Scheme) (plan : Plan) where
   abbrev pub turns : (k budget most : ℕ) → Schedule → Schedule
   turns k budget most sch = turned changes s plan k budget most sch
 
-  abbrev IsAtLeast : ℕ → Schedule → Type 0
+  abbrev pub IsAtLeast : ℕ → Schedule → Type 0
   IsAtLeast n sch = n ≤ length sch.events
 
-  grows : (n : ℕ) (e : Event) (sch : Schedule) → IsAtLeast n sch → IsAtLeast n (attempt e sch)
+  pub grows : (n : ℕ) (e : Event) (sch : Schedule) → IsAtLeast n sch → IsAtLeast n (attempt e sch)
   grows n e sch at_least = go (trial e sch)
     where
       go : IsSkipped e sch ⊎ IsKept e sch → IsAtLeast n (attempt e sch)
@@ -174,13 +174,13 @@ module _ (changes : Test) (s : Scheme) (plan : Plan) where
     more : length sch.events < length (turn k budget sch).events
     turns : turned changes s plan k budget (suc most) sch ≡ turned changes s plan k budget most (turn k budget sch)
 
-  either : (a b : Bool) → (a ≡ true) ⊎ (b ≡ true) → (a || b) ≡ true
+  pub either : (a b : Bool) → (a ≡ true) ⊎ (b ≡ true) → (a || b) ≡ true
   either true b e = refl
   either false true e = refl
   either false false (inl e) = e
   either false false (inr e) = e
 
-  neither : (a b : Bool) → a ≡ false → b ≡ false → (a || b) ≡ false
+  pub neither : (a b : Bool) → a ≡ false → b ≡ false → (a || b) ≡ false
   neither false false p q = refl
   neither false true p q = q
   neither true b p q = p
@@ -196,14 +196,14 @@ module _ (changes : Test) (s : Scheme) (plan : Plan) where
     turns = cond-true (changes sch.world (Accept k) || changes sch.world (Deliver k)) (turns k budget most (turn k budget sch)) sch (either (changes sch.world (Accept k)) (changes sch.world (Deliver k)) e);
   }
 
-  accept_more : (k budget : ℕ) (sch : Schedule) → IsKept (Accept k) sch
+  pub accept_more : (k budget : ℕ) (sch : Schedule) → IsKept (Accept k) sch
       → length sch.events < length (turn k budget sch).events
   accept_more k budget sch more =
       let n : ℕ = length (attempt (Accept k) sch).events in
       let at_least : n ≤ length (turn k budget sch).events = delivered_keeps (IsAtLeast n) (grows n) k budget (attempt (Accept k) sch) (omega arith) in
       omega (arith, at_least, longer (Accept k) sch more)
 
-  deliver_more : (k budget : ℕ) (sch : Schedule) → attempt (Accept k) sch ≡ sch → IsKept (Deliver k) sch
+  pub deliver_more : (k budget : ℕ) (sch : Schedule) → attempt (Accept k) sch ≡ sch → IsKept (Deliver k) sch
       → length sch.events < length (turn k (suc budget) sch).events
   deliver_more k budget sch same more =
       let n : ℕ = length (attempt (Deliver k) sch).events in

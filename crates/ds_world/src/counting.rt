@@ -34,26 +34,26 @@ fn arrived_of(parts: &WorldParts, route: Route) -> usize
 
 impl World {
     /// Where its lists have their memory.
-    pub(crate) fn memory(&self) -> Global {
+    pub fn memory(&self) -> Global {
         *self.parts.links.allocator()
     }
 
-    /// How many hosts there are.
-    pub(crate) fn hosts(&self) -> Result<u32, AllocError>
+    /// How many hosts there are. `AllocError` where they are 2^32 or more.
+    pub fn hosts(&self) -> Result<u32, AllocError>
         ensures { IfOk result (λ n. n ≡ length (plan_of self.now.doc).hosts) }
     {
         number(self.parts.doc.hosts.len())
     }
 
-    /// How many connections there are.
-    pub(crate) fn conns(&self) -> Result<u32, AllocError>
+    /// How many connections there are. `AllocError` where they are 2^32 or more.
+    pub fn conns(&self) -> Result<u32, AllocError>
         ensures { IfOk result (λ n. n ≡ length (plan_of self.now.doc).conn_plans) }
     {
         number(self.parts.routes.len())
     }
 
-    /// How many processes a host has.
-    pub(crate) fn procs_of(&self, host: u32) -> Result<u32, AllocError>
+    /// How many processes the host at a place has; 0 where there is none. `AllocError` where they are 2^32 or more.
+    pub fn procs_of(&self, host: u32) -> Result<u32, AllocError>
         ensures { IfOk result (λ n. n ≡ (host_plan (plan_of self.now.doc) host).procs) }
     {
         match self.parts.doc.hosts.get(host as usize) {
@@ -62,8 +62,8 @@ impl World {
         }
     }
 
-    /// How many lanes a host has.
-    pub(crate) fn lanes_of(&self, host: u32) -> Result<u32, AllocError>
+    /// How many lanes the host at a place has; 0 where there is none. `AllocError` where they are 2^32 or more.
+    pub fn lanes_of(&self, host: u32) -> Result<u32, AllocError>
         ensures { IfOk result (λ n. n ≡ length (host_plan (plan_of self.now.doc) host).lanes) }
     {
         match self.parts.doc.hosts.get(host as usize) {
@@ -72,8 +72,8 @@ impl World {
         }
     }
 
-    /// How many bytes of a connection's stream haven't arrived.
-    pub(crate) fn bytes_left(&self, conn: u32) -> u64
+    /// How many bytes of the stream of the connection with that number haven't arrived; 0 where there is none.
+    pub fn bytes_left(&self, conn: u32) -> u64
         ensures { result ≡ bytes_left (plan_of self.now.doc) (world_of self.now) conn }
     {
         let Some(route) = route_of(&self.parts.routes, conn) else {

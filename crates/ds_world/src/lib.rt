@@ -2,6 +2,7 @@
 #![tactic(auto)]
 
 mod acting;
+mod apart;
 mod arriving;
 mod connecting;
 mod counting;

@@ -12,6 +12,7 @@ ghost use Rattle.ds_setup.specs.Plans.{plan_of};
 ghost use Rattle.ds_setup.specs.Starts.{start_of};
 ghost use Rattle.ds_world.specs.Afters.{IsAfterUnlessStill};
 ghost use Rattle.ds_world.specs.Worlds.{IsFresh, world_of};
+ghost use Rattle.ds_world.specs.Hands.{AreSpelledAfter};
 ghost use Rattle.ds_world.specs.Makings.{GoesOn, HasRoom, connects, connects_all, delivers, goes_round, goes_rounds, schedule_of, takes_turns, tries, tries_all};
 
 use crate::acting::happen_unless_still;
@@ -281,6 +282,8 @@ impl World {
         ensures ok { IfOk result (λ events. world_of self.new ≡ run scheme (plan_of self.old.doc) (world_of self.old) (map meant events)) }
         // Of a world as setup makes it, messages are delivered only where the rules hold.
         ensures lawful { IfOk result (λ events. IsFresh self.old → Lawful scheme (plan_of self.old.doc) (start_of self.old.doc) (map meant events)) }
+        // Messages in hand have spellings all through.
+        ensures spelled { IfOk result (λ events. AreSpelledAfter (plan_of self.old.doc) (world_of self.old) (map meant events)) }
         ensures doc { self.new.doc ≡ self.old.doc }
         ensures count { IfOk result (λ events. self.new.count ≡ self.old.count + length events) }
     {

@@ -3,7 +3,7 @@ use Rattle.ds_plan.specs.declared.doc.Doc.{Doc}
 use Rattle.ds_plan.specs.declared.event.Event.{Event}
 use Rattle.ds_world.specs.Makings.{goes_rounds, schedule_of}
 use Rattle.ds_world.specs.Worlds.{world_of}
-use Rattle.ds_world.proofs.Hands.{whole_count, whole_lawful}
+use Rattle.ds_world.proofs.Hands.{whole_count, whole_lawful, whole_spelled}
 use Rattle.ds_world.proofs.Tried.{is_canonical, is_run}
 use Rattle.ds_world.proofs.world.World.canonical.Goals as goal
 
@@ -26,3 +26,6 @@ returns-clause-lawful c = whole_lawful c.args.self.now c.rounds.new.world (recor
 
 pub returns-clause-count : goal.returns-clause-count
 returns-clause-count c = whole_count c.args.self.now c.rounds.new.world (record { events = c.new.result; left = c.args.budget }) c.rounds.new.making c.new.ensures c.in_ok-rounds.ensures.goes
+
+pub returns-clause-spelled : goal.returns-clause-spelled
+returns-clause-spelled c = whole_spelled c.args.self.now c.rounds.new.world (record { events = c.new.result; left = c.args.budget }) c.rounds.new.making c.new.ensures c.in_ok-rounds.ensures.goes c.hands.ensures
