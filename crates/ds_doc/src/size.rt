@@ -1,4 +1,4 @@
-//! How many values a value is. A number or text in a list is counted without a call.
+//! How many values a value is.
 
 ghost use Rattle.std.specs.Prelude.{◌≡◌};
 ghost use Rattle.serde_json.specs.View.{view, items_view, members_view};
@@ -8,7 +8,6 @@ use serde_json::{Map, Value};
 
 /// The value itself and those in it, counted to 4,294,967,295 at most.
 #[cycle(size)]
-#[inline(always)]
 pub(crate) fn size(value: &Value) -> u32
     ensures { result ≡ size (view value.now) }
 {
@@ -20,7 +19,6 @@ pub(crate) fn size(value: &Value) -> u32
 }
 
 #[cycle(size)]
-#[inline(never)]
 fn items_size(items: &Vec<Value>) -> u32
     ensures { result ≡ items_size 1 (items_view items.now.items) }
 {
@@ -32,7 +30,6 @@ fn items_size(items: &Vec<Value>) -> u32
 }
 
 #[cycle(size)]
-#[inline(never)]
 fn members_size(members: &Map<String, Value>) -> u32
     ensures { result ≡ members_size 1 (members_view members.now.entries) }
 {

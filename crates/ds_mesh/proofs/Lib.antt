@@ -1,0 +1,4 @@
+pub mod Works
+pub mod Phases
+pub mod Quiet
+pub mod Texts

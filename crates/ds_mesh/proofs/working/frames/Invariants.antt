@@ -1,0 +1,5 @@
+use Rattle.ds_mesh.specs.Workings.{Works}
+use Rattle.ds_mesh.proofs.working.frames.Given as goal
+
+abbrev pub invariant-loop : goal.invariant-loop
+invariant-loop l = Works l.doc l.initial.task l.task

@@ -1,0 +1,4 @@
+pub mod Workings
+pub mod Phases
+pub mod Runs
+pub mod Meshes
