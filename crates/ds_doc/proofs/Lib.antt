@@ -14,3 +14,4 @@ pub mod Drafts
 pub mod Answered
 pub mod Heads
 pub mod Rooms
+pub mod Listed

@@ -8,3 +8,4 @@ pub mod Draft
 pub mod Rules
 pub mod Values
 pub mod Reading
+pub mod Listing

@@ -165,7 +165,10 @@ fn read_parts(alloc: Global, value: &Value) -> Result<(Doc, Vec<Option<TreeKey>>
 }
 
 #[tactic(auto, using(crate::proofs::Answered::documented))]
-fn read_value(alloc: Global, value: &Value) -> Result<(Doc, Vec<Option<TreeKey>>), DocFault>
+pub(crate) fn read_value(
+    alloc: Global,
+    value: &Value,
+) -> Result<(Doc, Vec<Option<TreeKey>>), DocFault>
     ensures answer { readings.AnswersBy (readings.answer_of (view value.now)) (readings.first_of result) }
     ensures document { IfOk result (λ r. IsDocument r.0) }
     ensures keys { IfOk result (λ r. r.1.items ≡ map identity_key r.0.hosts) }

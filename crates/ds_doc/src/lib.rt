@@ -13,7 +13,9 @@ mod rules;
 mod size;
 mod spot;
 mod text;
+mod unscripted;
 mod values;
 
 pub use document::{read, read_keyed};
 pub use fault::DocFault;
+pub use unscripted::read_without_events;
