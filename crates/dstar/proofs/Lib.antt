@@ -1,3 +1,4 @@
 pub mod Sims
 pub mod Answering
 pub mod Headlines
+pub mod Meshes

@@ -4,3 +4,4 @@ pub mod Words
 pub mod Sims
 pub mod Causes
 pub mod Headline
+pub mod Meshes

@@ -3,6 +3,7 @@
 
 mod call;
 mod input;
+mod mesh;
 mod output;
 mod respond;
 mod simulate;
@@ -11,17 +12,21 @@ mod status;
 mod tests;
 mod top;
 
+use crate::mesh::{dstar_mesh, is_mesh};
 use crate::status::Status;
 use crate::top::dstar_run;
-use ds_base::{FileKeeper, ReadSource, WriteSink};
+use ds_base::{FileKeeper, NoGate, ReadSource, WriteSink};
 use std::io::ErrorKind;
 use std::process::ExitCode;
+use std::thread::Threads;
 use std::time::{SystemTime, UNIX_EPOCH};
 use std::{env, io};
 
 /// What `--help` prints.
 const HELP: &str = "dstar: the exporter daemon of DStar\n\n\
     dstar sim < DOCUMENT         runs a JSON document of hosts and prints what happened\n\
+    dstar mesh < DOCUMENT        runs all hosts of the document at once, on threads, and prints the events that they made and\n\
+    \x20                            what happened\n\
     dstar keygen T I < SECRET    prints the public key of types T and index I, and its next leaf\n\
     dstar sign T I < INPUT       signs a message at the key's next leaf; the input is a secret, a line feed, the message\n\
     dstar verify < INPUT         says whether a signature is good; the input is a key, a line feed, a signature, a line\n\
@@ -74,7 +79,7 @@ fn answer_of(words: &[String]) -> Option<&'static str> {
 }
 
 /// How the call ends, with what it writes. Words that can't be read as text have no form.
-fn ended(rt: &HostRuntime) -> Status {
+fn ended<T: Threads + Sync>(rt: &HostRuntime, threads: &T) -> Status {
     let words = match words(rt) {
         Ok(words) => words,
         Err(error) => if error.kind() == ErrorKind::OutOfMemory {
@@ -91,6 +96,9 @@ fn ended(rt: &HostRuntime) -> Status {
     }
     let mut input = ReadSource::new(rt.stdin());
     let mut out = WriteSink::new(rt.stdout());
+    if is_mesh(words.as_slice()) {
+        return dstar_mesh(threads, rt.alloc(), &words, &mut input, &mut out, &NoGate);
+    }
     let Ok(mut keeper) = FileKeeper::new(rt.alloc(), *rt, "keep") else {
         return Status::NoMemory;
     };
@@ -114,7 +122,7 @@ fn report(rt: &HostRuntime, status: Status) {
 }
 
 fn main(rt: HostRuntime) -> ExitCode {
-    let status = ended(&rt);
+    let status = ended(&rt, &rt);
     report(&rt, status);
     ExitCode::from(status.code())
 }

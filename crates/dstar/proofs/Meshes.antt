@@ -1,0 +1,19 @@
+-- Of the run in threads whose text is written.
+use Rattle.std.proofs.Common.{◌≡◌, ℕ, List, sym, Result, Ok, Err, inl, inr}
+use Rattle.ds_model.specs.Step.{Event}
+use Rattle.ds_plan.specs.declared.doc.Doc.{Doc}
+use Rattle.ds_plan.specs.Documents.{IsDocument}
+use Rattle.ds_doc.specs.Reading.{Document}
+use Rattle.ds_doc.proofs.Answered.{documented}
+use Rattle.ds_sim.proofs.TwoTexts.{looks_the_same}
+use Rattle.dstar.specs.Meshes.{LooksTheSameBy}
+
+-- what bytes say is a document
+is_document_of : (bytes : List ℕ) (d : Doc) → Document bytes (Ok d) → IsDocument d
+is_document_of bytes d (inl a) = let clash : ◌≡◌ {A = Result Doc (ℕ × ℕ)} (Ok d) (Err (1, 0)) = a.1 in absurd cc
+is_document_of bytes d (inr a) = documented {B = ℕ} a.0 (Ok (d, 0)) (sym a.2)
+
+-- so the law over two runs holds of it, by whatever events
+pub outside_by : (bytes : List ℕ) (d : Doc) (one : List Event) → Document bytes (Ok d) → LooksTheSameBy d one
+outside_by bytes d one reads other e two also c trusted both =
+    looks_the_same c trusted d one e two (is_document_of bytes d reads) (is_document_of other e also) both
