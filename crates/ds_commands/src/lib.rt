@@ -16,4 +16,4 @@ mod words;
 pub use answering::answer;
 pub use command::Command;
 pub use reply::{CommandFault, Reply};
-pub use words::command_of;
+pub use words::{command_of, number_of};

@@ -31,7 +31,7 @@ fn is_decimal(text: &[u8]) -> bool
 }
 
 /// The number that a text writes, at most `most`.
-fn number_of(most: u64, text: &str) -> Option<u64>
+pub fn number_of(most: u64, text: &str) -> Option<u64>
     ensures { result ≡ number_in most text.now }
 {
     if !is_decimal(text.as_bytes()) {

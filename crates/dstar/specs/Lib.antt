@@ -5,3 +5,4 @@ pub mod Sims
 pub mod Causes
 pub mod Headline
 pub mod Meshes
+pub mod Summaries

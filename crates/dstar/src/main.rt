@@ -2,6 +2,7 @@
 #![tactic(auto)]
 
 mod call;
+mod generated;
 mod input;
 mod mesh;
 mod output;
@@ -33,6 +34,7 @@ const HELP: &str = "dstar: the exporter daemon of DStar\n\n\
     \x20                            feed, the message\n\
     dstar chain [MOMENT] < LINES prints the chain by which a key holds a category at a moment; the lines are the category,\n\
     \x20                            the key, and delegations\n\
+    dstar gen N                  prints the summary of the run of a document made for N, a number from 1 to 1,000\n\
     dstar --help                 prints this\n\
     dstar --version              prints the version\n\n\
     Secrets, keys, signatures and certificates are in hex. T is 5.3, 5.4, 6.3 or 6.4, I a number from 0 to 32. The marks of\n\

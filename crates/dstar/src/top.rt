@@ -7,9 +7,11 @@ ghost use Rattle.dstar.specs.declared.call.Call.TheVariants.{Sim};
 ghost use Rattle.dstar.specs.Causes.{Caused, Answers, asks_keeper};
 ghost use Rattle.dstar.specs.Headline.{Ran};
 ghost use Rattle.dstar.specs.Sims.{IsDeliveredLawfully, LooksTheSame};
-ghost use Rattle.dstar.specs.Words.{texts, is_sim, call_in};
+ghost use Rattle.dstar.specs.Summaries.{SummaryCaused};
+ghost use Rattle.dstar.specs.Words.{texts, is_sim, call_in, gen_in};
 
 use crate::call::Call;
+use crate::generated::answer_unread;
 use crate::respond::respond;
 use crate::status::Status;
 use ds_base::{Keeper, Sink, Source};
@@ -48,9 +50,11 @@ fn call_of(words: &[String]) -> Option<Call>
 /// | `sign T I` | a secret in hex, a line feed, a message | `q Q` and the signature in hex |
 /// | `verify` | a key and a signature in hex, a line each, and a message | `good`, or `bad NAME` |
 /// | `chain` or `chain T` | a category, a key and delegations in hex, a line each | `holds N` and the places, or `none` |
+/// | `gen N` | none | the summary of the run of the document for N, a number from 1 to 1,000 |
 ///
-/// The input is read to its end, of which at most 16,777,217 bytes. `keygen` and `sign` look at the mark of their key's
-/// identifier; `sign` raises it past the leaf that it used before anything is written. `now` is the present moment.
+/// But for `gen`, which doesn't read it, the input is read to its end, of which at most 16,777,217 bytes. `keygen` and `sign`
+/// look at the mark of their key's identifier; `sign` raises it past the leaf that it used before anything is written. `now`
+/// is the present moment.
 pub fn dstar_run<R: Source, W: Sink, K: Keeper>(
     alloc: Global,
     words: &Vec<String>,
@@ -60,7 +64,7 @@ pub fn dstar_run<R: Source, W: Sink, K: Keeper>(
     now: u64,
 ) -> Status
     // Usage comes exactly where the words have no form; nothing was read then, nothing written, and the keeper not touched.
-    ensures usage { result ≡ Status.Usage ↔ (call_in (texts words.now.items) ≡ None) }
+    ensures usage { result ≡ Status.Usage ↔ (call_in (texts words.now.items) ≡ None) × (gen_in (texts words.now.items) ≡ None) }
     ensures unused { result ≡ Status.Usage → (input.new ≡ input.old) × (out.new ≡ out.old) × (keeper.new ≡ keeper.old) }
     // Only `keygen` and `sign` touch the keeper.
     ensures kept { (call : Call) → call_in (texts words.now.items) ≡ Some call → asks_keeper call ≡ false → keeper.new ≡ keeper.old }
@@ -82,6 +86,10 @@ pub fn dstar_run<R: Source, W: Sink, K: Keeper>(
       keeper_faults = K.faults keeper.old;
       keeper_faults_after = K.faults keeper.new;
     }) result }
+    // `gen N` reads nothing, and doesn't touch the keeper; what it writes is the summary of the run of the document for N.
+    ensures unread { (number : ℕ) → gen_in (texts words.now.items) ≡ Some number → (input.new ≡ input.old) × (keeper.new ≡ keeper.old) }
+    ensures summary { (number : ℕ) → gen_in (texts words.now.items) ≡ Some number
+        → SummaryCaused number (W.tells out.old) (W.tells out.new) (W.faults out.old) (W.faults out.new) result }
     // The headline, of the run whose text `sim` wrote. What it delivers it delivers only where the sender's, both exporters' and the
     // mailbox's rules hold.
     ensures lawful { call_in (texts words.now.items) ≡ Some Sim → result ≡ Status.Ok
@@ -101,6 +109,6 @@ pub fn dstar_run<R: Source, W: Sink, K: Keeper>(
 {
     match call_of(words.as_slice()) {
         Some(call) => respond(alloc, call, input, out, keeper, now),
-        None => Status::Usage,
+        None => answer_unread(alloc, words.as_slice(), out),
     }
 }

@@ -1,10 +1,11 @@
-use Rattle.std.proofs.Common.{◌≡◌, ◌∙◌, sym, ap, subst, refl, Some}
-use Rattle.dstar.specs.Words.{texts, call_in}
+use Rattle.std.proofs.Common.{◌≡◌, ◌∙◌, sym, ap, subst, Some, None}
+use Rattle.dstar.specs.Words.{texts, call_in, gen_in}
 use Rattle.dstar.specs.Causes.{Observed, Caused, Answers, asks_keeper}
 use Rattle.dstar.specs.declared.call.Call.{Call}
 use Rattle.dstar.specs.declared.call.Call.TheVariants.{Sim}
 use Rattle.dstar.specs.Sims.{IsDeliveredLawfully, LooksTheSame}
 use Rattle.dstar.proofs.Answering.{answers, never_usage, same_call, no_call}
+use Rattle.dstar.proofs.Asked.{not_both}
 use Rattle.dstar.proofs.Headlines.{ran}
 use Rattle.dstar.proofs.top.dstar_run.Goals as goal
 
@@ -27,7 +28,7 @@ returns-in-Some-clause-usage g c =
       keeper_faults_after = g.K.Keeper.faults c.respond.new.keeper;
     } in
     let is : call_in (texts c.args.words.now.items) ≡ Some c.in-Some.call = ap (λ ws. call_in (texts ws)) (sym c.as_slice.ensures.value) ∙ sym c.call_of.ensures ∙ c.in-Some.is in
-    (λ e. absurd (never_usage c.in-Some.call c.args.now m c.respond.result c.respond.ensures.caused e), λ none. absurd (no_call c.in-Some.call _ none is))
+    (λ e. absurd (never_usage c.in-Some.call c.args.now m c.respond.result c.respond.ensures.caused e), λ none. absurd (no_call c.in-Some.call _ none.0 is))
 
 pub returns-in-Some-clause-unused : goal.returns-in-Some-clause-unused
 returns-in-Some-clause-unused g c =
@@ -98,7 +99,24 @@ returns-in-Some-clause-answers g c = λ call is' bytes told r w k.
     (answers c.in-Some.call c.args.now m bytes c.respond.result c.respond.ensures.caused told r w k)
 
 pub returns-in-None-clause-usage : goal.returns-in-None-clause-usage
-returns-in-None-clause-usage g c = (λ e. ap (λ ws. call_in (texts ws)) (sym c.as_slice.ensures.value) ∙ sym c.call_of.ensures ∙ c.in-None.is, λ e. refl)
+returns-in-None-clause-usage g c =
+    let same : texts c.as_slice.result.now ≡ texts c.args.words.now.items = ap texts c.as_slice.ensures.value in
+    let none : call_in (texts c.args.words.now.items) ≡ None = ap call_in (sym same) ∙ sym c.call_of.ensures ∙ c.in-None.is in
+    (λ e. (none, ap gen_in (sym same) ∙ c.answer_unread.ensures.usage.0 e), λ both. c.answer_unread.ensures.usage.1 (ap gen_in same ∙ both.1))
+
+pub returns-in-Some-clause-summary : goal.returns-in-Some-clause-summary
+returns-in-Some-clause-summary g c = λ number asked.
+    let is : call_in (texts c.args.words.now.items) ≡ Some c.in-Some.call = ap (λ ws. call_in (texts ws)) (sym c.as_slice.ensures.value) ∙ sym c.call_of.ensures ∙ c.in-Some.is in
+    absurd (not_both (texts c.args.words.now.items) number c.in-Some.call asked is)
+
+pub returns-in-Some-clause-unread : goal.returns-in-Some-clause-unread
+returns-in-Some-clause-unread g c = λ number asked.
+    let is : call_in (texts c.args.words.now.items) ≡ Some c.in-Some.call = ap (λ ws. call_in (texts ws)) (sym c.as_slice.ensures.value) ∙ sym c.call_of.ensures ∙ c.in-Some.is in
+    absurd (not_both (texts c.args.words.now.items) number c.in-Some.call asked is)
+
+pub returns-in-None-clause-summary : goal.returns-in-None-clause-summary
+returns-in-None-clause-summary g c = λ number asked.
+    c.answer_unread.ensures.caused number (ap (λ ws. gen_in (texts ws)) c.as_slice.ensures.value ∙ asked)
 
 pub returns-in-None-clause-caused : goal.returns-in-None-clause-caused
 returns-in-None-clause-caused g c = λ call is'.

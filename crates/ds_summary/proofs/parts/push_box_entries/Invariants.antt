@@ -1,0 +1,6 @@
+use Rattle.std.proofs.Common.{◌≡◌, ◌++◌, take, flat_map}
+use Rattle.ds_summary.specs.Parts.{kept_box_counts}
+use Rattle.ds_summary.proofs.parts.push_box_entries.Given as goal
+
+abbrev pub invariant-loop-entry : goal.invariant-loop-entry
+invariant-loop-entry l = l.out.items ≡ l.initial.out.items ++ flat_map kept_box_counts (take l.entry-index l.entries)
