@@ -1,0 +1,60 @@
+//! The spelling of what entries hold and calls hand out. After `AllocError`, which says that memory ran out, a part may have been
+//! appended.
+
+ghost use Rattle.std.specs.Prelude.{◌≡◌, ◌++◌, length, IfOk, OnOk};
+ghost use Rattle.std.specs.List.{flat_map};
+ghost use Rattle.std.specs.Int.{w64, to_be_bytes};
+ghost use Rattle.ds_box.specs.Boxes.{IsShortMail};
+ghost use Rattle.ds_msg.specs.Ranges.{PayloadFits};
+ghost use Rattle.ds_msg.specs.Spelling.{spelling_of_payload};
+ghost use Rattle.ds_share.specs.Spelling.{spelling_of_mail, spelling_of_numbers};
+
+use ds_label::LocalLabel;
+use ds_msg::LocalMessage;
+use ds_wire::{Bytes, put_u8, put_u32, put_u64};
+use std::alloc::{AllocError, Global};
+
+/// Numbers, one after the other.
+fn append_each(out: &mut Bytes, numbers: &[u64]) -> Result<(), AllocError>
+    ensures { OnOk result (out.new ≡ out.old ++ flat_map (to_be_bytes w64) numbers.now) }
+{
+    for number in numbers {
+        put_u64(out, *number)?;
+    }
+    Ok(())
+}
+
+/// A label of a host's own numbers: a count, and its numbers.
+#[tactic(auto, unfolding(crate::specs::Spelling::spelling_of_numbers))]
+fn append_numbers(out: &mut Bytes, label: &LocalLabel) -> Result<(), AllocError>
+    ensures { OnOk result (out.new ≡ out.old ++ spelling_of_numbers label.now) }
+{
+    put_u8(out, label.len() as u8)?;
+    append_each(out, label.as_slice())
+}
+
+/// A payload behind its count.
+#[tactic(auto, unfolding(ds_msg::specs::Spelling::spelling_of_payload))]
+fn append_payload(out: &mut Bytes, payload: &Bytes) -> Result<(), AllocError>
+    requires { PayloadFits payload.now }
+    ensures { OnOk result (out.new ≡ out.old ++ spelling_of_payload payload.now) }
+{
+    put_u32(out, payload.len() as u32)?;
+    out.append(payload.as_slice())?;
+    Ok(())
+}
+
+/// A message inside a host.
+#[tactic(auto, unfolding(crate::specs::Spelling::spelling_of_mail))]
+pub(crate) fn mail_bytes(alloc: Global, message: &LocalMessage) -> Result<Bytes, AllocError>
+    requires { IsShortMail message.now }
+    ensures { IfOk result (λ bytes. bytes ≡ spelling_of_mail message.now) }
+{
+    let mut out = Bytes::new(alloc);
+    out.append(&message.from.0)?;
+    append_numbers(&mut out, &message.label)?;
+    append_numbers(&mut out, &message.own)?;
+    append_numbers(&mut out, &message.clear)?;
+    append_payload(&mut out, &message.payload)?;
+    Ok(out)
+}
