@@ -1,3 +1,5 @@
 pub mod Spelling
 pub mod Receipts
 pub mod Mailboxes
+pub mod SharedInlets
+pub mod SharedLanes

@@ -3,9 +3,11 @@
 ghost use Rattle.std.specs.Prelude.{◌≡◌, ℕ, ◌<◌, ◌+◌, ◌-◌, ◌^◌, max};
 ghost use Rattle.std.specs.Sync.Mutex.{mutex_guard_value};
 ghost use Rattle.ds_box.specs.Boxes as boxes;
+ghost use Rattle.ds_inlet.specs.Inlets as inlets;
 ghost use Rattle.ds_share.specs.Receipts.{next_stamp};
 
 use ds_box::BoxState;
+use ds_inlet::Inlet;
 use std::sync::{Mutex, MutexGuard, Wait};
 
 /// A state whose history has stamps.
@@ -23,6 +25,14 @@ impl Stamped for BoxState {
 
     fn last_stamp_given(&self) -> u64 {
         self.last()
+    }
+}
+
+impl Stamped for Inlet {
+    ghost last = { λ i. inlets.last_stamp i.inlet };
+
+    fn last_stamp_given(&self) -> u64 {
+        self.last_stamp()
     }
 }
 

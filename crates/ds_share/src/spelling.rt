@@ -3,13 +3,14 @@
 
 ghost use Rattle.std.specs.Prelude.{◌≡◌, ◌++◌, length, IfOk, OnOk};
 ghost use Rattle.std.specs.List.{flat_map};
-ghost use Rattle.std.specs.Int.{w64, to_be_bytes};
-ghost use Rattle.ds_box.specs.Boxes.{IsShortMail};
-ghost use Rattle.ds_msg.specs.Ranges.{PayloadFits};
+ghost use Rattle.std.specs.Int.{w32, w64, to_be_bytes};
+ghost use Rattle.ds_msg.specs.Ranges.{MessageRange, PayloadFits};
 ghost use Rattle.ds_msg.specs.Spelling.{spelling_of_payload};
-ghost use Rattle.ds_share.specs.Spelling.{spelling_of_mail, spelling_of_numbers};
+ghost use Rattle.ds_box.specs.Boxes.{IsShortMail};
+ghost use Rattle.ds_share.specs.Spelling.{spelling_of_mail, spelling_of_numbers, spelling_of_waiting};
 
 use ds_label::LocalLabel;
+use ds_lane::Waiting;
 use ds_msg::LocalMessage;
 use ds_wire::{Bytes, put_u8, put_u32, put_u64};
 use std::alloc::{AllocError, Global};
@@ -57,4 +58,24 @@ pub(crate) fn mail_bytes(alloc: Global, message: &LocalMessage) -> Result<Bytes,
     append_numbers(&mut out, &message.clear)?;
     append_payload(&mut out, &message.payload)?;
     Ok(out)
+}
+
+/// A number of four bytes.
+pub(crate) fn number_bytes(alloc: Global, number: u32) -> Result<Bytes, AllocError>
+    ensures { IfOk result (λ bytes. bytes ≡ to_be_bytes w32 number) }
+{
+    Bytes::from_slice(alloc, &number.to_be_bytes())
+}
+
+/// A message of a lane: the number of the process that sent it, and the message behind its count of bytes.
+#[tactic(auto, unfolding(crate::specs::Spelling::spelling_of_waiting))]
+pub(crate) fn append_waiting(out: &mut Bytes, waiting: &Waiting) -> Result<(), AllocError>
+    requires { MessageRange waiting.now.message }
+    ensures { OnOk result (out.new ≡ out.old ++ spelling_of_waiting waiting.now) }
+{
+    let message = waiting.message.encode()?;
+    put_u32(out, waiting.from)?;
+    put_u32(out, message.len() as u32)?;
+    out.append(message.as_slice())?;
+    Ok(())
 }
