@@ -101,8 +101,9 @@ returns-in-Some-clause-answers g c = λ call is' bytes told r w k.
 pub returns-in-None-clause-usage : goal.returns-in-None-clause-usage
 returns-in-None-clause-usage g c =
     let same : texts c.as_slice.result.now ≡ texts c.args.words.now.items = ap texts c.as_slice.ensures.value in
+    let again : texts c.as_slice-in-None.result.now ≡ texts c.args.words.now.items = ap texts c.as_slice-in-None.ensures.value in
     let none : call_in (texts c.args.words.now.items) ≡ None = ap call_in (sym same) ∙ sym c.call_of.ensures ∙ c.in-None.is in
-    (λ e. (none, ap gen_in (sym same) ∙ c.answer_unread.ensures.usage.0 e), λ both. c.answer_unread.ensures.usage.1 (ap gen_in same ∙ both.1))
+    (λ e. (none, ap gen_in (sym again) ∙ c.answer_unread.ensures.usage.0 e), λ both. c.answer_unread.ensures.usage.1 (ap gen_in again ∙ both.1))
 
 pub returns-in-Some-clause-summary : goal.returns-in-Some-clause-summary
 returns-in-Some-clause-summary g c = λ number asked.
@@ -116,11 +117,11 @@ returns-in-Some-clause-unread g c = λ number asked.
 
 pub returns-in-None-clause-summary : goal.returns-in-None-clause-summary
 returns-in-None-clause-summary g c = λ number asked.
-    c.answer_unread.ensures.caused number (ap (λ ws. gen_in (texts ws)) c.as_slice.ensures.value ∙ asked)
+    c.answer_unread.ensures.caused number (ap (λ ws. gen_in (texts ws)) c.as_slice-in-None.ensures.value ∙ asked)
 
 pub returns-in-None-clause-caused : goal.returns-in-None-clause-caused
 returns-in-None-clause-caused g c = λ call is'.
-    no_call call _ (ap (λ ws. call_in (texts ws)) (sym c.as_slice.ensures.value) ∙ sym c.call_of.ensures ∙ c.in-None.is) is'
+    absurd (no_call call _ (ap (λ ws. call_in (texts ws)) (sym c.as_slice.ensures.value) ∙ sym c.call_of.ensures ∙ c.in-None.is) is')
 
 pub returns-in-None-clause-answers : goal.returns-in-None-clause-answers
 returns-in-None-clause-answers g c = λ call is' bytes told r w k.
