@@ -1,17 +1,11 @@
 -- Of the run in threads whose text is written.
-use Rattle.std.proofs.Common.{◌≡◌, ℕ, List, sym, Result, Ok, Err, inl, inr}
+use Rattle.std.proofs.Common.{◌≡◌, ℕ, List, Ok}
 use Rattle.ds_model.specs.Step.{Event}
 use Rattle.ds_plan.specs.declared.doc.Doc.{Doc}
-use Rattle.ds_plan.specs.Documents.{IsDocument}
 use Rattle.ds_doc.specs.Reading.{Document}
-use Rattle.ds_doc.proofs.Answered.{documented}
 use Rattle.ds_sim.proofs.TwoTexts.{looks_the_same}
 use Rattle.dstar.specs.Meshes.{LooksTheSameBy}
-
--- what bytes say is a document
-is_document_of : (bytes : List ℕ) (d : Doc) → Document bytes (Ok d) → IsDocument d
-is_document_of bytes d (inl a) = let clash : ◌≡◌ {A = Result Doc (ℕ × ℕ)} (Ok d) (Err (1, 0)) = a.1 in absurd cc
-is_document_of bytes d (inr a) = documented {B = ℕ} a.0 (Ok (d, 0)) (sym a.2)
+use Rattle.dstar.proofs.Sims.{is_document_of}
 
 -- so the law over two runs holds of it, by whatever events
 pub outside_by : (bytes : List ℕ) (d : Doc) (one : List Event) → Document bytes (Ok d) → LooksTheSameBy d one

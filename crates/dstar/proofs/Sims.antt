@@ -57,7 +57,7 @@ sim_alike bytes (Breaks code place) Spends g h = absurd h
 sim_alike bytes Spends s g h = absurd g
 
 -- what bytes say is a document
-is_document_of : (bytes : List ℕ) (d : Doc) → Document bytes (Ok d) → IsDocument d
+pub is_document_of : (bytes : List ℕ) (d : Doc) → Document bytes (Ok d) → IsDocument d
 is_document_of bytes d (inl a) = let clash : ◌≡◌ {A = Result Doc (ℕ × ℕ)} (Ok d) (Err (1, 0)) = a.1 in absurd cc
 is_document_of bytes d (inr a) = documented {B = ℕ} a.0 (Ok (d, 0)) (sym a.2)
 
