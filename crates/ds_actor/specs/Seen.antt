@@ -26,7 +26,13 @@ process_of here rows hand p = record {
 
 -- a message inside the host
 abbrev pub mail_of : PubKey → List Category → LocalMessage → Mail Category
-mail_of here rows m = record { from = m.from; label = named here rows m.label; own = named here rows m.own; clear = named here rows m.clear; payload = m.payload }
+mail_of here rows m = record {
+  from = m.from;
+  label = named here rows m.label;
+  own = named here rows m.own;
+  clear = named here rows m.clear;
+  payload = m.payload;
+}
 
 -- the labels of a process, and of such a message
 abbrev pub proc_labels : Numbered → List (List ℕ)

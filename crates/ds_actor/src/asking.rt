@@ -32,7 +32,8 @@ fn ask_current<S: Site>(
     requires agreed { HasTable (S.seen site.now).here process.old.process.names }
     requires room { 0 < process.old.room }
     requires spare { 0 < process.old.spare }
-    ensures ok { IfOk result (IsAnswer (S.seen site.now) index (slice_get process.old.process.script process.old.process.course.place) process.old process.new) }
+    ensures ok { IfOk result
+        (IsAnswer (S.seen site.now) index (slice_get process.old.process.script process.old.process.course.place) process.old process.new) }
     ensures script { process.new.process.script ≡ process.old.process.script }
     ensures err { OnErr result (process.new.process ≡ process.old.process) }
 {
@@ -104,7 +105,8 @@ pub fn ask_outer<S: Site>(
     ensures script { process.new.process.script ≡ process.old.process.script }
     ensures err { OnErr result (process.new.process ≡ process.old.process) }
     ensures names { UnderTables (S.seen site.now).here [] process.old.process (λ rows. IsAgreed (S.seen site.now).here rows process.new.process.names) }
-    ensures labels { UnderTables (S.seen site.now).here [] process.old.process (λ rows. IsTrue (have_names (S.seen site.now).here rows (proc_labels process.new.process))) }
+    ensures labels { UnderTables (S.seen site.now).here [] process.old.process
+        (λ rows. IsTrue (have_names (S.seen site.now).here rows (proc_labels process.new.process))) }
     ensures mail { UnderTables (S.seen site.now).here [] process.old.process (λ rows. IfOk result (HasMailNames (S.seen site.now).here rows)) }
     ensures asked { UnderTables (S.seen site.now).here (S.seen site.now).boxes process.old.process (λ rows. (plan : HostPlan) (hand : Option Message) →
         let here = (S.seen site.now).here in let q = with_site (S.seen site.now) rows plan in

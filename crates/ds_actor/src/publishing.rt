@@ -28,7 +28,8 @@ use std::alloc::AllocError;
 
 /// The rule by which a process may not act in public.
 fn publish_refusal(process: &Proc) -> Option<Rule>
-    ensures { (here : Key) → UnderTables here [] process.now.process (λ rows. (hand : Option Message) → result ≡ publish_rule (process_of here rows hand process.now.process)) }
+    ensures { (here : Key) → UnderTables here [] process.now.process
+        (λ rows. (hand : Option Message) → result ≡ publish_rule (process_of here rows hand process.now.process)) }
 {
     if let Err(rule) = process.may_publish() {
         return Some(rule);
