@@ -42,7 +42,7 @@ pub(crate) fn set_label(
     ensures asked { UnderTables here.now [] process.old.process (λ rows. (hand : Option Message) →
         let x = process_of here.now rows hand process.old.process in let y = process_of here.now rows hand process.new.process in
         IfOk result (λ a. IsAsked here.now rows x y a (relabel x label (first_rule
-            (known_rule here.now x.names label [] [] ∷ may_relabel by_name x.label x.own x.clear label ∷ []))))) }
+        (known_rule here.now x.names label [] [] ∷ may_relabel by_name x.label x.own x.clear label ∷ []))))) }
 {
     let _label = label.as_slice();
     let none = Label::new(alloc);
