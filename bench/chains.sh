@@ -1,6 +1,6 @@
 #!/usr/bin/env bash
-# Times 10,000 searches of a book over 256 delegations of 64 categories, all at one moment and each at another than the one before,
-# beside the plain search in the same run. It writes a small program into a new folder beside copies of the crates, and builds it
+# Times 10,000 judgements of a book, whether a key holds a category, over 256 delegations of 64 categories, in each a line of four
+# from key to key: all at one moment, and each at another than the one before; beside the plain search in the same run. It writes a small program into a new folder beside copies of the crates, and builds it
 # there, which proves it and the crates first: that takes minutes, and fewer where the crates have their `out` folders.
 set -eu
 here=$(cd "$(dirname "$0")" && pwd)
@@ -27,7 +27,7 @@ import sys
 
 count, plain, cached, indexed = map(int, open(sys.argv[1]).read().split())
 if max(plain, cached, indexed) > 10 ** 20:
-    sys.exit("a search answered otherwise than the plain one")
-print(f"{count} delegations, 10,000 searches: plain {plain / 1e6:.2f} ms; at one moment {cached / 1e6:.2f} ms, {plain / cached:.1f} times "
+    sys.exit("a judgement differs from the plain one")
+print(f"{count} delegations, 10,000 judgements: plain {plain / 1e6:.2f} ms; at one moment {cached / 1e6:.2f} ms, {plain / cached:.1f} times "
       f"as fast; at moments that change {indexed / 1e6:.2f} ms, {plain / indexed:.1f} times as fast")
 T

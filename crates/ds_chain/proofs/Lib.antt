@@ -10,4 +10,5 @@ pub mod Stores
 pub mod Delegations
 pub mod Listings
 pub mod Kept
+pub mod Holders
 pub mod Cached

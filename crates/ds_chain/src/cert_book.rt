@@ -1,9 +1,9 @@
 //! The delegations that a host keeps, with an index and a cache for their chains.
 
-ghost use Rattle.std.specs.Prelude.{◌≡◌, ℕ, ◌≤◌, ◌<◌, ◌++◌, List, [], ◌∷◌, ◌↔◌, ◌≢◌, ◌⊎◌, Option, false, length, Err, Contains, IfOk, IsOk, OnOk, OnErr, IfSome, IsSome, IsTrue, IsErrOf, if◌then◌else◌};
+ghost use Rattle.std.specs.Prelude.{◌≡◌, ℕ, ◌≤◌, ◌<◌, ◌++◌, List, [], ◌∷◌, ◌↔◌, ◌≢◌, ◌⊎◌, Option, false, length, Err, Contains, IfOk, IsOk, OnOk, OnErr, IfSome, IsSome, IsTrue, IsErrOf, if◌then◌else◌, is_some};
 ghost use Rattle.ds_cert.specs.NoDoubles.{is_kept as is_kept_in, with_delegation};
 ghost use Rattle.ds_cert.specs.Ranges.{DelegationRange};
-ghost use Rattle.ds_chain.specs.Answers.{category_of, key_of};
+ghost use Rattle.ds_chain.specs.Answers.{HasHeld, category_of, key_of};
 ghost use Rattle.ds_chain.specs.Chain.{IsShortestChain};
 ghost use Rattle.ds_chain.specs.Delegated.{chain_to, hops_of_list, key_holds};
 ghost use Rattle.ds_chain.specs.declared.question.Question.{Question as QuestionValue};
@@ -186,7 +186,41 @@ impl CertBook {
         ensures holds { IfOk result (λ b. b ≡ key_holds (self.old.items ++ extra.now.items) now category.now key.now) }
         ensures same { self.new ≡ self.old }
     {
+        if extra.is_empty() {
+            return self.holds_alone(extra, now, category, key);
+        }
         Ok(self.search(extra, now, category, key)?.is_some())
+    }
+
+    /// Whether the key holds where `extra` is empty: by the cache if it has the answer, which isn't copied then.
+    fn holds_alone(
+        &mut self,
+        extra: &CertList,
+        now: u64,
+        category: &Category,
+        key: &PubKey,
+    ) -> Result<bool, AllocError>
+        requires { extra.now.items ≡ [] }
+        ensures holds { IfOk result (λ b. b ≡ key_holds (self.old.items ++ extra.now.items) now category.now key.now) }
+        ensures same { self.new ≡ self.old }
+    {
+        let question = Question::new(category, key);
+        if let Some(held) = self.recall_held(now, question) {
+            return Ok(held);
+        }
+        Ok(self.search(extra, now, category, key)?.is_some())
+    }
+
+    /// Whether the cache's answer at a moment is a chain, if it has one.
+    fn recall_held(&mut self, now: u64, question: Question) -> Option<bool>
+        ensures held { IfSome result (λ held. held ≡ is_some (chain_to self.old.items now (category_of question) (key_of question))) }
+        ensures same { self.new ≡ self.old }
+    {
+        let other = self.moment != now;
+        if other {
+            return None;
+        }
+        held_in(&mut self.answers, question)
     }
 
     /// The chain, by the index alone.
@@ -268,6 +302,17 @@ fn recall_in(
     match answers.get(&question) {
         Some(answer) => Ok(Some(copy_of(answer)?)),
         None => Ok(None),
+    }
+}
+
+/// Whether the answer to a question is a chain, if the cache has one.
+fn held_in(answers: &mut AnswerCache, question: Question) -> Option<bool>
+    ensures held { IfSome result (HasHeld answers.old.entries question) }
+    ensures fewer { (entry : QuestionValue × Option (List ℕ)) → Contains answers.new.entries entry → Contains answers.old.entries entry }
+{
+    match answers.get(&question) {
+        Some(answer) => Some(answer.is_some()),
+        None => None,
     }
 }
 
