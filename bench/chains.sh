@@ -1,6 +1,7 @@
 #!/usr/bin/env bash
 # Times 10,000 judgements of a book, whether a key holds a category, over 256 delegations of 64 categories, in each a line of four
-# from key to key: all at one moment, and each at another than the one before; beside the plain search in the same run. It writes a small program into a new folder beside copies of the crates, and builds it
+# from key to key: all at one moment, and each at another than the one before; beside the plain search in the same run. It writes
+# a small program into a new folder beside copies of the crates, and builds it
 # there, which proves it and the crates first: that takes minutes, and fewer where the crates have their `out` folders.
 set -eu
 here=$(cd "$(dirname "$0")" && pwd)
