@@ -14,5 +14,7 @@ mod Fitting
 mod Wholes
 mod Booted
 mod Taken
+mod Dealt
+mod Parts
 mod Exporters
 pub mod Planned

@@ -6,12 +6,16 @@ mod booting;
 mod certs;
 mod conns;
 mod desks;
+mod doc_keys;
 mod hosts;
+mod jobs;
 mod keys;
 mod lanes;
 mod laws;
 mod procs;
+mod queue;
 mod signing;
 
-pub use booting::{boot, boot_keyed};
+pub use booting::{boot, boot_with};
+pub use doc_keys::{DocKeys, make_keys, make_keys_in_threads};
 pub use laws::{connections_begin_so, hosts_begin_so, silent_hosts_begin_so};
