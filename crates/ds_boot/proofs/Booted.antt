@@ -17,7 +17,6 @@ use Rattle.ds_setup.proofs.Places.{inside, test_at}
 use Rattle.ds_setup.proofs.Facts.{enough_leaves, leads}
 use Rattle.ds_setup.proofs.Setups.{plan_host}
 use Rattle.ds_hosts.specs.Nodes.{NodeState, Running, Silent, conns_of, plain_host}
-use Rattle.ds_boot.specs.AllKeys.{HasFewLanes}
 use Rattle.ds_boot.specs.Lanes.{MayBegin}
 use Rattle.ds_boot.specs.Parts.{conns_to}
 use Rattle.ds_boot.specs.Beginnings.{AreBegun, IsNodeBegun}
@@ -73,10 +72,3 @@ module _ (d : Doc) (is : IsDocument d) where
         leaves = λ runs. let enough = enough_leaves d is place h there runs in omega (arith, enough);
         silent = silent_lanes d is place h there;
       })
-
-  -- what each host needs for its keys to be made
-  pub few_lanes : All HasFewLanes d.hosts
-  few_lanes = every_all HasFewLanes d.hosts (λ place h there. record {
-    few = (host_sizes h (test_at has_host_sizes d.hosts place h is.host_sizes there)).lanes;
-    silent = silent_lanes d is place h there;
-  })

@@ -14,7 +14,6 @@ mod Fitting
 mod Wholes
 mod Booted
 mod Taken
-mod Dealt
-mod Parts
+mod Made
 mod Exporters
 pub mod Planned

@@ -17,7 +17,7 @@ ghost use Rattle.ds_boot.specs.Nodes.{AreNodesOf};
 use crate::begun::begin_hosts;
 use crate::certs::sign_certs;
 use crate::conns::conn_ends;
-use crate::doc_keys::{DocKeys, make_keys};
+use crate::doc_keys::{DocKeys, make_keys, make_lane_keys};
 use crate::hosts::{Shared, begin_node};
 use crate::keys::public_keys;
 use ds_exporter::LaneList;
@@ -112,6 +112,23 @@ pub fn boot_with(alloc: Global, doc: &Doc, keys: DocKeys) -> Result<NodeList, Al
     let mut lane_keys = keys.lanes;
     let nodes = begin_all(alloc, doc, &mut trees, &mut lane_keys)?;
     Ok(nodes)
+}
+
+/// The hosts of a document as they are before the first event, with the identity keys of those that run, by their places.
+/// `AllocError` where memory runs out.
+pub fn boot_keyed(
+    alloc: Global,
+    doc: &Doc,
+    trees: Vec<Option<TreeKey>>,
+) -> Result<NodeList, AllocError>
+    requires document { IsDocument doc.now }
+    requires trees { trees.items ≡ map identity_key doc.now.hosts }
+    ensures hosts { IfOk result (λ nodes. map plain_host (map node_of nodes.items) ≡ (start_of doc.now).hosts) }
+    ensures nodes { IfOk result (λ nodes. AreNodesOf doc.now (map node_of nodes.items)) }
+    ensures conns { IfOk result (λ nodes. map conns_of (map node_of nodes.items) ≡ each (conns_to doc.now) doc.now.hosts) }
+{
+    let keys = make_lane_keys(alloc, doc, trees)?;
+    boot_with(alloc, doc, keys)
 }
 
 /// The hosts of a document as they are before the first event: each running one an exporter, and of each silent one the

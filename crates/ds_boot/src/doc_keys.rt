@@ -1,21 +1,18 @@
 //! The keys that the hosts of a document and their lanes sign with.
 #![tactic(auto)]
 
-ghost use Rattle.std.specs.Prelude.{◌≡◌, ◌++◌, ◌∷◌, [], map, All, length, ◌≤◌, IfOk, OnOk};
-ghost use Rattle.std.specs.List.{flat_map};
-ghost use Rattle.std.specs.Vec.Iter.{into_iter_items};
-ghost use Rattle.lms_sig.specs.Keys.{Key};
+ghost use Rattle.std.specs.Prelude.{◌≡◌, map, All, IfOk};
+ghost use Rattle.std.specs.Thread.{IsSync};
 ghost use Rattle.ds_plan.specs.Keys.{identity_key};
 ghost use Rattle.ds_plan.specs.Documents.{IsDocument};
-ghost use Rattle.ds_boot.specs.AllKeys.{AreKeysOf, AreKeysOfHosts, HasFewLanes, HasOwn, lane_trees, own_trees, trees_of};
+ghost use Rattle.ds_boot.specs.AllKeys.{AreKeysOf, HasFewLanes, lane_trees, trees_of};
 
-use crate::jobs::{jobs_of, make_each, make_each_in_threads};
-use crate::queue::{next_key, next_keys};
-use ds_plan::{Doc, HostSpec, Secret};
+use crate::forked;
+use crate::trees;
+use ds_plan::{Doc, HostSpec};
 use lms_sig::TreeKey;
 use std::alloc::{AllocError, Global};
-use std::thread::Threads;
-use std::vec::IntoIter;
+use std::thread::{Threads, join};
 
 /// The keys that the hosts of a document and their lanes sign with, by the hosts' places.
 #[derive(Drop)]
@@ -26,62 +23,53 @@ pub struct DocKeys {
     pub lanes: Vec<Vec<TreeKey>>,
 }
 
-/// Takes a host's keys, which are the next ones. `AllocError` where memory runs out.
-fn deal_host(
-    alloc: Global,
-    host: &HostSpec,
-    keys: &mut IntoIter<TreeKey>,
-    dealt: &mut DocKeys,
-) -> Result<(), AllocError>
-    requires lanes { HasFewLanes host.now }
-    requires keys { HasOwn host.now (into_iter_items keys.old) }
-    ensures identities { OnOk result (dealt.new.identities.items ≡ dealt.old.identities.items ++ identity_key host.now ∷ []) }
-    ensures lanes { OnOk result (map trees_of dealt.new.lanes.items ≡ map trees_of dealt.old.lanes.items ++ lane_trees host.now ∷ []) }
-    ensures rest { OnOk result (into_iter_items keys.old ≡ own_trees host.now ++ into_iter_items keys.new) }
-{
-    match &host.secret {
-        Secret::Seed(_) => {
-            dealt.identities.push(Some(next_key(keys)))?;
-            dealt.lanes.push(next_keys(alloc, keys, host.lanes.len())?)?;
-            Ok(())
-        }
-        Secret::Key(_) => {
-            dealt.identities.push(None)?;
-            dealt.lanes.push(Vec::new(alloc))?;
-            Ok(())
-        }
-    }
-}
-
-/// The keys of all hosts, by their places, of which these are all. `AllocError` where memory runs out.
-fn deal(alloc: Global, hosts: &[HostSpec], keys: Vec<TreeKey>) -> Result<DocKeys, AllocError>
-    requires lanes { All HasFewLanes hosts.now }
-    requires keys { keys.items ≡ flat_map own_trees hosts.now }
-    ensures { IfOk result (λ dealt. AreKeysOfHosts hosts.now dealt) }
-{
-    let mut keys = keys.into_iter();
-    let mut dealt = DocKeys {
-        identities: Vec::new(alloc),
-        lanes: Vec::new(alloc),
-    };
-    for host in hosts {
-        deal_host(alloc, host, &mut keys, &mut dealt)?;
-    }
-    Ok(dealt)
-}
-
 /// All keys of a document, made one after another. `AllocError` where memory runs out.
 pub fn make_keys(alloc: Global, doc: &Doc) -> Result<DocKeys, AllocError>
     requires { IsDocument doc.now }
     ensures { IfOk result (λ keys. AreKeysOf doc.now keys) }
 {
-    let hosts = doc.hosts.as_slice();
-    let jobs = jobs_of(alloc, hosts)?;
-    let keys = make_each(alloc, jobs.as_slice())?;
-    deal(alloc, hosts, keys)
+    let identities = trees::identity_trees(alloc, doc.hosts.as_slice())?;
+    make_lane_keys(alloc, doc, identities)
 }
 
-/// All keys of a document, made in threads: the same as `make_keys`. `AllocError` where memory runs out.
+/// All keys of a document of which the hosts' identity keys are made, the keys of its lanes made one after another. `AllocError`
+/// where memory runs out.
+pub fn make_lane_keys(
+    alloc: Global,
+    doc: &Doc,
+    identities: Vec<Option<TreeKey>>,
+) -> Result<DocKeys, AllocError>
+    requires document { IsDocument doc.now }
+    requires identities { identities.items ≡ map identity_key doc.now.hosts }
+    ensures { IfOk result (λ keys. AreKeysOf doc.now keys) }
+{
+    let lanes = trees::each_lane_trees(alloc, doc.hosts.as_slice())?;
+    Ok(DocKeys { identities, lanes })
+}
+
+/// The identity keys of hosts and the keys of their lanes, all made at once. `AllocError` where memory runs out.
+fn made_at_once<R: Threads + Sync>(
+    rt: &R,
+    alloc: Global,
+    hosts: &[HostSpec],
+) -> Result<(Vec<Option<TreeKey>>, Vec<Vec<TreeKey>>), AllocError>
+    requires { All HasFewLanes hosts.now }
+    ensures identities { IfOk result (λ r. r.0.items ≡ map identity_key hosts.now) }
+    ensures lanes { IfOk result (λ r. map trees_of r.1.items ≡ map lane_trees hosts.now) }
+{
+    let (identities, lanes) = join(
+        rt,
+        || forked::identity_trees(rt, alloc, hosts),
+        || -> Result<Vec<Vec<TreeKey>>, AllocError>
+            requires { IsSync R.row × All HasFewLanes hosts.now }
+            ensures { IfOk result (λ lanes. map trees_of lanes.items ≡ map lane_trees hosts.entry.now) }
+        { forked::each_lane_trees(rt, alloc, hosts) },
+    );
+    Ok((identities?, lanes?))
+}
+
+/// All keys of a document, made at once, each in a thread of its own where one can be made: the same as `make_keys` makes.
+/// `AllocError` where memory runs out.
 pub fn make_keys_in_threads<R: Threads + Sync>(
     rt: &R,
     alloc: Global,
@@ -90,8 +78,22 @@ pub fn make_keys_in_threads<R: Threads + Sync>(
     requires { IsDocument doc.now }
     ensures { IfOk result (λ keys. AreKeysOf doc.now keys) }
 {
-    let hosts = doc.hosts.as_slice();
-    let jobs = jobs_of(alloc, hosts)?;
-    let keys = make_each_in_threads(rt, alloc, jobs.as_slice())?;
-    deal(alloc, hosts, keys)
+    let (identities, lanes) = made_at_once(rt, alloc, doc.hosts.as_slice())?;
+    Ok(DocKeys { identities, lanes })
+}
+
+/// All keys of a document of which the hosts' identity keys are made, the keys of its lanes made at once, each in a thread of its own
+/// where one can be made. `AllocError` where memory runs out.
+pub fn make_lane_keys_in_threads<R: Threads + Sync>(
+    rt: &R,
+    alloc: Global,
+    doc: &Doc,
+    identities: Vec<Option<TreeKey>>,
+) -> Result<DocKeys, AllocError>
+    requires document { IsDocument doc.now }
+    requires identities { identities.items ≡ map identity_key doc.now.hosts }
+    ensures { IfOk result (λ keys. AreKeysOf doc.now keys) }
+{
+    let lanes = forked::each_lane_trees(rt, alloc, doc.hosts.as_slice())?;
+    Ok(DocKeys { identities, lanes })
 }
