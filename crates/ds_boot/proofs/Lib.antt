@@ -14,5 +14,6 @@ mod Fitting
 mod Wholes
 mod Booted
 mod Taken
+mod Made
 mod Exporters
 pub mod Planned

@@ -131,3 +131,23 @@ map_grows {B} {C} g xs i d first items new y lt is item so_far =
 pub flat_is_joined : {B C : Type 0} (g : B → List C) (xs : List B) → flat_map g xs ≡ joined (map g xs)
 flat_is_joined g [] = refl
 flat_is_joined {B} {C} g (x ∷ xs) = ap (λ (ys : List C). g x ++ ys) (flat_is_joined g xs)
+
+-- what is left of a list by places begins with this one
+pub each_next : {X Y : Type 0} (f : ℕ → X → Y) (xs : List X) (i : ℕ) (d : X) → i < length xs → drop i (each f xs) ≡ f i (get_or xs i d) ∷ drop (i + 1) (each f xs)
+each_next f [] i d lt = absurd (omega arith)
+each_next f (x ∷ xs) zero d lt = refl
+each_next f (x ∷ xs) (suc i) d lt =
+    let next : suc i + 1 ≡ suc (i + 1) = omega arith in
+    each_next (λ j. f (suc j)) xs i d (omega (arith, lt)) ∙ ap (λ n. f (suc i) (get_or xs i d) ∷ drop n (each f (x ∷ xs))) (sym next)
+
+pub some_left : {X Y : Type 0} (f : ℕ → X → Y) (xs : List X) (i : ℕ) (d : X) (left : List Y) → i < length xs → left ≡ drop i (each f xs) → 0 < length left
+some_left {X} {Y} f xs i d left lt is =
+    let size : length left ≡ suc (length (drop (i + 1) (each f xs))) = ap (λ (ys : List Y). length ys) (is ∙ each_next f xs i d lt) in
+    omega (arith, size)
+
+pub next_of_each : {X Y : Type 0} (f : ℕ → X → Y) (xs : List X) (i : ℕ) (d y : X) (first : Y) (left rest : List Y) → i < length xs → y ≡ get_or xs i d → left ≡ first ∷ rest → left ≡ drop i (each f xs) → first ≡ f i y
+next_of_each {X} {Y} f xs i d y first left rest lt item taken is =
+    ap (λ (ys : List Y). get_or ys 0 first) (sym taken ∙ (is ∙ each_next f xs i d lt)) ∙ ap (f i) (sym item)
+
+pub rest_of_each : {X Y : Type 0} (f : ℕ → X → Y) (xs : List X) (i : ℕ) (d : X) (first : Y) (left rest : List Y) → i < length xs → left ≡ first ∷ rest → left ≡ drop i (each f xs) → rest ≡ drop (i + 1) (each f xs)
+rest_of_each {X} {Y} f xs i d first left rest lt taken is = ap (λ (ys : List Y). drop 1 ys) (sym taken ∙ (is ∙ each_next f xs i d lt))

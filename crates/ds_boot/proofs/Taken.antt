@@ -29,6 +29,19 @@ lanes_are f hosts left i own h e at same =
 pub lanes_left : (old new : List (Vec LanePart Global)) (j : ℕ) → slice_get new j ≡ slice_get old j → slice_get (map lanes_of new) j ≡ slice_get (map lanes_of old) j
 lanes_left old new j same = slice_get-map lanes_of new j ∙ (ap (option_map lanes_of) same ∙ sym (slice_get-map lanes_of old j))
 
+module _ {X V Y : Type 0} (view : V → Y) (f : X → Y) where
+  -- the part that is taken, of those that are seen as a list is
+  pub part_is : (xs : List X) (left : List V) (i : ℕ) (own : V) (x : X) → slice_get xs i ≡ Some x → slice_get left i ≡ Some own → slice_get (map view left) i ≡ slice_get (map f xs) i → view own ≡ f x
+  part_is xs left i own x e at same =
+      same_Some (view own) (f x) (sym (slice_get-map view left i ∙ ap (option_map view) at) ∙ (same ∙ (slice_get-map f xs i ∙ ap (option_map f) e)))
+
+  pub parts_left : (old new : List V) (j : ℕ) → slice_get new j ≡ slice_get old j → slice_get (map view new) j ≡ slice_get (map view old) j
+  parts_left old new j same = slice_get-map view new j ∙ (ap (option_map view) same ∙ sym (slice_get-map view old j))
+
+  -- there are as many
+  pub part_count : (xs : List X) (parts : List V) → map view parts ≡ map f xs → length parts ≡ length xs
+  part_count xs parts same = sym (length-map {B = Y} parts view) ∙ (ap (λ (ys : List Y). length ys) same ∙ length-map {B = Y} xs f)
+
 -- one host more has begun
 pub one_more_begun : (d : Doc) (at : ℕ) (nodes new : List Node) (host : HostSpec) (made : Node) → length nodes ≡ at → new ≡ nodes ++ made ∷ [] → slice_get d.hosts at ≡ Some host → IsNodeBegun d at host (node_of made) →
     ((place : ℕ) (h : HostSpec) (x : NodeState) → slice_get d.hosts place ≡ Some h → slice_get (map node_of nodes) place ≡ Some x → IsNodeBegun d place h x) →

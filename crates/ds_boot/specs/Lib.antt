@@ -1,4 +1,5 @@
 pub mod Signers
+pub mod AllKeys
 pub mod Signing
 pub mod Lanes
 pub mod Desks

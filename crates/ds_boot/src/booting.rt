@@ -7,6 +7,7 @@ ghost use Rattle.ds_plan.specs.Documents.{IsDocument};
 ghost use Rattle.ds_setup.specs.Lists.{each};
 ghost use Rattle.ds_setup.specs.Starts.{start_of};
 ghost use Rattle.ds_hosts.specs.Nodes.{conns_of, node_of, plain_host};
+ghost use Rattle.ds_boot.specs.AllKeys.{AreKeysOf, lane_trees, trees_of};
 ghost use Rattle.ds_boot.specs.Signing.{signer_behind};
 ghost use Rattle.ds_boot.specs.Lanes.{lanes_begun, lanes_of};
 ghost use Rattle.ds_boot.specs.Parts.{conns_to};
@@ -16,8 +17,9 @@ ghost use Rattle.ds_boot.specs.Nodes.{AreNodesOf};
 use crate::begun::begin_hosts;
 use crate::certs::sign_certs;
 use crate::conns::conn_ends;
+use crate::doc_keys::{DocKeys, make_keys, make_lane_keys};
 use crate::hosts::{Shared, begin_node};
-use crate::keys::{identity_trees, public_keys};
+use crate::keys::public_keys;
 use ds_exporter::LaneList;
 use ds_hosts::NodeList;
 use ds_plan::{Doc, HostSpec};
@@ -70,19 +72,21 @@ fn begin_nodes(
     Ok(nodes)
 }
 
-/// The hosts of a document as they begin, with their identity keys.
+/// The hosts of a document as they begin, with their identity keys and those of their lanes.
 fn begin_all(
     alloc: Global,
     doc: &Doc,
     trees: &mut [Option<TreeKey>],
+    lane_keys: &mut [Vec<TreeKey>],
 ) -> Result<NodeList, AllocError>
     requires document { IsDocument doc.now }
     requires trees { trees.old ≡ map identity_key doc.now.hosts }
+    requires lane_keys { map trees_of lane_keys.old ≡ map lane_trees doc.now.hosts }
     ensures { IfOk result (λ nodes. AreBegun doc.now (map node_of nodes.items)) }
 {
     let hosts = doc.hosts.as_slice();
     let keys = public_keys(alloc, hosts, trees)?;
-    let begun = begin_hosts(alloc, hosts, keys.as_slice(), trees)?;
+    let begun = begin_hosts(alloc, hosts, keys.as_slice(), trees, lane_keys)?;
     let mut signers = begun.signers;
     let mut lanes = begun.lanes;
     let certs = sign_certs(alloc, doc, keys.as_slice(), &mut signers)?;
@@ -93,6 +97,21 @@ fn begin_all(
         ends: conn_ends(alloc, doc)?,
     };
     begin_nodes(alloc, doc, &shared, hosts, &mut signers, &mut lanes)
+}
+
+/// The hosts of a document as they are before the first event, with the keys that they and their lanes sign with: each running
+/// one an exporter, and of each silent one the connections to it. `AllocError` where memory runs out.
+pub fn boot_with(alloc: Global, doc: &Doc, keys: DocKeys) -> Result<NodeList, AllocError>
+    requires document { IsDocument doc.now }
+    requires keys { AreKeysOf doc.now keys }
+    ensures hosts { IfOk result (λ nodes. map plain_host (map node_of nodes.items) ≡ (start_of doc.now).hosts) }
+    ensures nodes { IfOk result (λ nodes. AreNodesOf doc.now (map node_of nodes.items)) }
+    ensures conns { IfOk result (λ nodes. map conns_of (map node_of nodes.items) ≡ each (conns_to doc.now) doc.now.hosts) }
+{
+    let mut trees = keys.identities;
+    let mut lane_keys = keys.lanes;
+    let nodes = begin_all(alloc, doc, &mut trees, &mut lane_keys)?;
+    Ok(nodes)
 }
 
 /// The hosts of a document as they are before the first event, with the identity keys of those that run, by their places.
@@ -108,9 +127,8 @@ pub fn boot_keyed(
     ensures nodes { IfOk result (λ nodes. AreNodesOf doc.now (map node_of nodes.items)) }
     ensures conns { IfOk result (λ nodes. map conns_of (map node_of nodes.items) ≡ each (conns_to doc.now) doc.now.hosts) }
 {
-    let mut trees = trees;
-    let nodes = begin_all(alloc, doc, &mut trees)?;
-    Ok(nodes)
+    let keys = make_lane_keys(alloc, doc, trees)?;
+    boot_with(alloc, doc, keys)
 }
 
 /// The hosts of a document as they are before the first event: each running one an exporter, and of each silent one the
@@ -121,6 +139,6 @@ pub fn boot(alloc: Global, doc: &Doc) -> Result<NodeList, AllocError>
     ensures nodes { IfOk result (λ nodes. AreNodesOf doc.now (map node_of nodes.items)) }
     ensures conns { IfOk result (λ nodes. map conns_of (map node_of nodes.items) ≡ each (conns_to doc.now) doc.now.hosts) }
 {
-    let trees = identity_trees(alloc, doc.hosts.as_slice())?;
-    boot_keyed(alloc, doc, trees)
+    let keys = make_keys(alloc, doc)?;
+    boot_with(alloc, doc, keys)
 }

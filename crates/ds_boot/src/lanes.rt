@@ -9,9 +9,11 @@ ghost use Rattle.ds_setup.specs.Lists.{each};
 ghost use Rattle.ds_setup.specs.Signed.{address_leaves};
 ghost use Rattle.ds_exporter.specs.HostStates.{lane_of};
 ghost use Rattle.ds_boot.specs.Signers.{identity_tree, lane_signing, signing_at};
+ghost use Rattle.ds_boot.specs.AllKeys.{lane_tree, lane_trees};
 ghost use Rattle.ds_boot.specs.Lanes.{blank_lane, lane_begun};
 
-use crate::keys::lane_signer;
+use crate::keys::fresh_signer;
+use crate::queue::next_key;
 use crate::signing::sign_lane;
 use ds_cert::LaneCert;
 use ds_exporter::{LaneList, LanePart};
@@ -20,6 +22,7 @@ use ds_lane::{LaneEnd, LaneState};
 use ds_plan::{HostSpec, LaneSpec};
 use ds_script::{Actor, ActorKind};
 use ds_wire::Bytes;
+use lms_sig::TreeKey;
 use lms_state::Signer;
 use std::alloc::{AllocError, Global};
 
@@ -49,7 +52,7 @@ fn unsigned_lane(
     })
 }
 
-/// The lane at a place. `AllocError` where memory runs out.
+/// The lane at a place, with that key. `AllocError` where memory runs out.
 fn begin_lane(
     alloc: Global,
     keys: &[PubKey],
@@ -58,16 +61,18 @@ fn begin_lane(
     signer: &mut Signer,
     place: u32,
     lane: &LaneSpec,
+    tree: TreeKey,
 ) -> Result<LanePart, AllocError>
     requires runs { is_silent host.now.secret ≡ false }
     requires few { place < 32 }
     requires to { lane.now.to < length keys.now }
     requires signer { signer.old ≡ signing_at (address_leaves host.now + place) (identity_tree host.now) }
     requires leaf { address_leaves host.now + place < leaf_count host.now.identity.lms }
+    requires tree { tree ≡ lane_tree host.now place lane.now }
     ensures lane { IfOk result (λ l. lane_of l ≡ lane_begun keys.now at host.now place lane.now) }
     ensures signer { OnOk result (signer.new ≡ signing_at (address_leaves host.now + (place + 1)) (identity_tree host.now)) }
 {
-    let lane_key = lane_signer(alloc, host, place + 1)?;
+    let lane_key = fresh_signer(tree);
     let blank = unsigned_lane(alloc, keys, signer, &lane_key, place, lane)?;
     let cert = sign_lane(signer, blank)?;
     let who = Actor {
@@ -80,16 +85,18 @@ fn begin_lane(
     Ok(LanePart { state, end })
 }
 
-/// The lanes of a running host, which are these. `AllocError` where memory runs out.
+/// The lanes of a running host, which are these, with their keys. `AllocError` where memory runs out.
 fn begin_each_lane(
     alloc: Global,
     keys: &[PubKey],
     at: u32,
     host: &HostSpec,
     lanes: &[LaneSpec],
+    trees: Vec<TreeKey>,
     signer: &mut Signer,
 ) -> Result<LaneList, AllocError>
     requires lanes { lanes.now ≡ host.now.lanes }
+    requires trees { trees.items ≡ lane_trees host.now }
     requires runs { is_silent host.now.secret ≡ false }
     requires few { length host.now.lanes ≤ 32 }
     requires to { All (λ l. l.to < length keys.now) host.now.lanes }
@@ -98,21 +105,25 @@ fn begin_each_lane(
     ensures lanes { IfOk result (λ begun. map lane_of begun.items ≡ each (lane_begun keys.now at host.now) host.now.lanes) }
     ensures signer { OnOk result (signer.new ≡ signing_at (address_leaves host.now + length host.now.lanes) (identity_tree host.now)) }
 {
+    let mut trees = trees.into_iter();
     let mut begun = Vec::new(alloc);
     for (place, lane) in lanes.iter().enumerate() {
-        begun.push(begin_lane(alloc, keys, at, host, signer, place as u32, lane)?)?;
+        let tree = next_key(&mut trees);
+        begun.push(begin_lane(alloc, keys, at, host, signer, place as u32, lane, tree)?)?;
     }
     Ok(begun)
 }
 
-/// The lanes of a running host, by their numbers. `AllocError` where memory runs out.
+/// The lanes of a running host, by their numbers, with their keys. `AllocError` where memory runs out.
 pub fn begin_lanes(
     alloc: Global,
     keys: &[PubKey],
     at: u32,
     host: &HostSpec,
+    trees: Vec<TreeKey>,
     signer: &mut Signer,
 ) -> Result<LaneList, AllocError>
+    requires trees { trees.items ≡ lane_trees host.now }
     requires runs { is_silent host.now.secret ≡ false }
     requires few { length host.now.lanes ≤ 32 }
     requires to { All (λ l. l.to < length keys.now) host.now.lanes }
@@ -121,5 +132,5 @@ pub fn begin_lanes(
     ensures lanes { IfOk result (λ begun. map lane_of begun.items ≡ each (lane_begun keys.now at host.now) host.now.lanes) }
     ensures signer { OnOk result (signer.new ≡ signing_at (address_leaves host.now + length host.now.lanes) (identity_tree host.now)) }
 {
-    begin_each_lane(alloc, keys, at, host, host.lanes.as_slice(), signer)
+    begin_each_lane(alloc, keys, at, host, host.lanes.as_slice(), trees, signer)
 }

@@ -6,7 +6,7 @@ mod laws;
 mod routing;
 mod simulate;
 
-pub use beginning::setup;
+pub use beginning::{setup, setup_with};
 pub use laws::{runs_begin_so, runs_look_the_same};
 pub use routing::routes;
 pub use simulate::run_text;

@@ -1,7 +1,7 @@
 use Rattle.std.proofs.Common.{map}
 use Rattle.ds_hosts.specs.Nodes.{node_of}
 use Rattle.ds_boot.proofs.Booted.{booted}
-use Rattle.ds_boot.proofs.booting.boot_keyed.Goals as goal
+use Rattle.ds_boot.proofs.booting.boot_with.Goals as goal
 
 pub returns-clause-hosts : goal.returns-clause-hosts
 returns-clause-hosts c = (booted c.args.doc.now c.requires.document (map node_of c.in_ok-nodes.nodes.items) c.in_ok-nodes.ensures).hosts
