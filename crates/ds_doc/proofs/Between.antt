@@ -27,7 +27,8 @@ wider : (a b c d : ℕ) (o : Option Fault) → c ≤ a → b ≤ d → IsBetween
 wider a b c d None low high h = tt
 wider a b c d (Some f) low high h = (h.0, omega (arith, low, h.1), omega (arith, high, h.2))
 
-either : (low high : ℕ) (f g : Fault) (b : Bool) → IsBetween low high (Some f) → IsBetween low high (Some g) → IsBetween low high (if b then Some g else Some f)
+either : (low high : ℕ) (f g : Fault) (b : Bool) → IsBetween low high (Some f) → IsBetween low high (Some g)
+    → IsBetween low high (if b then Some g else Some f)
 either low high f g true hf hg = hg
 either low high f g false hf hg = hf
 
@@ -168,8 +169,10 @@ count_by : (low high at p : ℕ) (ds : Items) (forms : List Form) (b : Bool) →
 count_by low high at p ds forms true l h rest = rest
 count_by low high at p ds forms false l h rest = one low high 4 at (omega arith) l h
 
-words_by : (low high at p : ℕ) (ds : Items) (o : Option (List Form)) → low ≤ at → at ≤ high → low ≤ (at ⊕ 1) → (at ⊕ 1) ≤ high → ((forms : List Form) → IsBetween low high (least (judged_each forms p ds)))
-    → IsBetween low high (least (or_default (fault 4 (at ⊕ 1)) (λ forms. if length (listed ds) == length forms then judged_each forms p ds else fault 4 at) o))
+words_by : (low high at p : ℕ) (ds : Items) (o : Option (List Form)) → low ≤ at → at ≤ high → low ≤ (at ⊕ 1) → (at ⊕ 1) ≤ high
+    → ((forms : List Form) → IsBetween low high (least (judged_each forms p ds)))
+    → IsBetween low high (least (or_default (fault 4 (at ⊕ 1)) (λ forms. if length (listed ds) == length forms then judged_each forms p ds else fault 4 at)
+    o))
 words_by low high at p ds None l h l1 h1 all = one low high 4 (at ⊕ 1) (omega arith) l1 h1
 words_by low high at p ds (Some forms) l h l1 h1 all = count_by low high at p ds forms _ l h (all forms)
 
@@ -200,14 +203,16 @@ mutual
   judged_between (Worded f) at (string s) h = one at _ 4 at (omega arith) (self at) (more at _ h)
   judged_between (Worded f) at (object ms) h = one at _ 4 at (omega arith) (self at) (more at _ h)
 
-  pub items_between : (form : Form) (low a count p : ℕ) (ds : Items) → p ≡ a ⊕ count → low ≤ p → IsBetween low (a ⊕ items_size count ds) (least (judged_items form p ds))
+  pub items_between : (form : Form) (low a count p : ℕ) (ds : Items) → p ≡ a ⊕ count → low ≤ p
+      → IsBetween low (a ⊕ items_size count ds) (least (judged_items form p ds))
   items_between form low a count p no_items e l = tt
   items_between form low a count p (item d ds) e l =
       both low (a ⊕ items_size (count ⊕ size d) ds) (judged form p d) (judged_items form (p ⊕ size d) ds)
       (wider p (p ⊕ size d) low _ (least (judged form p d)) l (items_rest p a count d ds e) (judged_between form p d (placed p a count e)))
       (items_between form low a (count ⊕ size d) (p ⊕ size d) ds (next p a count (size d) e) (further low p a count (size d) e l))
 
-  pub members_between : (f : object_form.Object) (low a count p : ℕ) (ms : Members) → p ≡ a ⊕ count → low ≤ p → IsBetween low (a ⊕ members_size count ms) (least (judged_members f p ms))
+  pub members_between : (f : object_form.Object) (low a count p : ℕ) (ms : Members) → p ≡ a ⊕ count → low ≤ p
+      → IsBetween low (a ⊕ members_size count ms) (least (judged_members f p ms))
   members_between f low a count p no_members e l = tt
   members_between f low a count p (json.member k d ms) e l =
       both low (a ⊕ members_size (count ⊕ size d) ms) (or_default (fault 3 p) (λ form. judged form p d) (member_form f k)) (judged_members f (p ⊕ size d) ms)
@@ -218,11 +223,13 @@ mutual
   pub words_between : (f : worded_form.Worded) (at : ℕ) (ds : Items) → at ≤ 4294967295 → IsBetween at (at ⊕ items_size 1 ds) (least (judged_words f at ds))
   words_between f at no_items h = one at _ 4 at (omega arith) (self at) (more at _ h)
   words_between f at (item word ds) h =
-      words_by at (at ⊕ items_size (1 ⊕ size word) ds) at (at ⊕ 1 ⊕ size word) ds (word_arguments f word) (self at) (more at _ h) (more at 1 h) (items_ends at 1 (item word ds))
+      words_by at (at ⊕ items_size (1 ⊕ size word) ds) at (at ⊕ 1 ⊕ size word) ds (word_arguments f word) (self at) (more at _ h) (more at 1 h)
+      (items_ends at 1 (item word ds))
       (λ forms. each_between forms at at (1 ⊕ size word) (at ⊕ 1 ⊕ size word) ds (next (at ⊕ 1) at 1 (size word) refl)
       (further at (at ⊕ 1) at 1 (size word) refl (more at 1 h)))
 
-  pub each_between : (forms : List Form) (low a count p : ℕ) (ds : Items) → p ≡ a ⊕ count → low ≤ p → IsBetween low (a ⊕ items_size count ds) (least (judged_each forms p ds))
+  pub each_between : (forms : List Form) (low a count p : ℕ) (ds : Items) → p ≡ a ⊕ count → low ≤ p
+      → IsBetween low (a ⊕ items_size count ds) (least (judged_each forms p ds))
   each_between [] low a count p ds e l = tt
   each_between (form ∷ forms) low a count p no_items e l = tt
   each_between (form ∷ forms) low a count p (item d ds) e l =
@@ -230,7 +237,8 @@ mutual
       (wider p (p ⊕ size d) low _ (least (judged form p d)) l (items_rest p a count d ds e) (judged_between form p d (placed p a count e)))
       (each_between forms low a (count ⊕ size d) (p ⊕ size d) ds (next p a count (size d) e) (further low p a count (size d) e l))
 
-pub member_between : (p : ℕ) (d : Data) (o : Option Form) → p ≤ 4294967295 → IsBetween p (p ⊕ size d) (least (or_default (fault 3 p) (λ form. judged form p d) o))
+pub member_between : (p : ℕ) (d : Data) (o : Option Form) → p ≤ 4294967295
+    → IsBetween p (p ⊕ size d) (least (or_default (fault 3 p) (λ form. judged form p d) o))
 member_between p d o h = member_by p _ p d o (self p) (more p _ h) (λ form. judged_between form p d h)
 
 -- a fault of the least code comes before all that stand behind it
@@ -282,7 +290,8 @@ here_by at ms true c e = one at at 2 at (omega arith) (self at) (self at)
 here_by at ms false true e = let h = first_not (at ⊕ 1) ms in absurd cc
 here_by at ms false false e = tt
 
-pub whole_here : (o : object_form.Object) (at : ℕ) (ms : Members) → is_least (least (whole_faults o at ms)) ≡ true → IsBetween at at (least (whole_faults o at ms))
+pub whole_here : (o : object_form.Object) (at : ℕ) (ms : Members) → is_least (least (whole_faults o at ms)) ≡ true
+    → IsBetween at at (least (whole_faults o at ms))
 whole_here objects.Document at ms e = unless_one at at 2 at _ (omega arith) (self at) (self at)
 whole_here objects.Host at ms e = unless_one at at 2 at _ (omega arith) (self at) (self at)
 whole_here objects.Proc at ms e = unless_one at at 2 at _ (omega arith) (self at) (self at)

@@ -115,7 +115,8 @@ fn judge_items(
     at: u32,
     items: &Vec<Value>,
 ) -> Result<Judged, AllocError>
-    ensures { IfOk result (λ j. shapes.Tells j (shapes.judged (forms.Listed listed) at (array (items_view items.now.items))) (at ⊕ items_count 1 (items_view items.now.items))) }
+    ensures { IfOk result (λ j. shapes.Tells j (shapes.judged (forms.Listed listed) at (array (items_view items.now.items)))
+        (at ⊕ items_count 1 (items_view items.now.items))) }
 {
     let beyond = unless(is_within(alloc, listed.most(), items)?, BEYOND, at);
     let found = judge_all(alloc, listed.item(), at.saturating_add(1), items)?;
@@ -158,7 +159,8 @@ fn judge_member(
     at: u32,
     member: &Value,
 ) -> Result<Judged, AllocError>
-    ensures { IfOk result (λ j. shapes.Tells j (or_default (shapes.fault 3 at) (λ form. shapes.judged form at (view member.now)) form) (at ⊕ count_of (view member.now))) }
+    ensures { IfOk result (λ j. shapes.Tells j (or_default (shapes.fault 3 at) (λ form. shapes.judged form at (view member.now)) form)
+        (at ⊕ count_of (view member.now))) }
 {
     match form {
         Some(form) => judge(alloc, form, at, member),
@@ -177,7 +179,8 @@ fn judge_members(
     at: u32,
     members: &Map<String, Value>,
 ) -> Result<Judged, AllocError>
-    ensures { IfOk result (λ j. shapes.Tells j (shapes.judged (forms.Object object) at (object_data (members_view members.now.entries))) (at ⊕ members_count 1 (members_view members.now.entries))) }
+    ensures { IfOk result (λ j. shapes.Tells j (shapes.judged (forms.Object object) at (object_data (members_view members.now.entries)))
+        (at ⊕ members_count 1 (members_view members.now.entries))) }
 {
     let mut found = whole_fault(object, at, members);
     if is_least(found) {
@@ -212,7 +215,8 @@ fn judge_words(
     at: u32,
     items: &Vec<Value>,
 ) -> Result<Judged, AllocError>
-    ensures { IfOk result (λ j. shapes.Tells j (shapes.judged (forms.Worded worded) at (array (items_view items.now.items))) (at ⊕ items_count 1 (items_view items.now.items))) }
+    ensures { IfOk result (λ j. shapes.Tells j (shapes.judged (forms.Worded worded) at (array (items_view items.now.items)))
+        (at ⊕ items_count 1 (items_view items.now.items))) }
 {
     let Some(word) = items.first() else {
         return Ok(misshapen_in(at, at, items));
@@ -237,7 +241,8 @@ fn judge_each(
     items: &Vec<Value>,
 ) -> Result<Judged, AllocError>
     requires { length items.now.items ≡ length forms.now + 1 }
-    ensures { IfOk result (λ j. shapes.Tells j (shapes.judged_each forms.now at (items_view (drop 1 items.now.items))) (items_count at (items_view (drop 1 items.now.items)))) }
+    ensures { IfOk result (λ j. shapes.Tells j (shapes.judged_each forms.now at (items_view (drop 1 items.now.items)))
+        (items_count at (items_view (drop 1 items.now.items)))) }
 {
     let mut found = None;
     let mut place = at;

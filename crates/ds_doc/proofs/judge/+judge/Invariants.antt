@@ -15,7 +15,8 @@ invariant-judge_all-loop-item l =
 abbrev pub invariant-judge_members-loop-name : goal.invariant-judge_members-loop-name
 invariant-judge_members-loop-name l =
     MembersLeft l.fn.object l.found l.place (members_view l.name-iterator)
-    (least (judged (Object l.fn.object) l.fn.at (object (members_view l.initial.name-iterator)))) (l.fn.at ⊕ members_size 1 (members_view l.initial.name-iterator))
+    (least (judged (Object l.fn.object) l.fn.at (object (members_view l.initial.name-iterator))))
+    (l.fn.at ⊕ members_size 1 (members_view l.initial.name-iterator))
 
 abbrev pub invariant-judge_each-loop-index : goal.invariant-judge_each-loop-index
 invariant-judge_each-loop-index l =
