@@ -16,7 +16,7 @@ pub least_append : (fs gs : List Fault) → least (fs ++ gs) ≡ lesser (least f
 least_append [] gs = refl
 least_append (f ∷ fs) gs = rw (least_append fs gs) (sym (lesser_joins f (least fs) (least gs)))
 
-lesser_all : (f g h : Option Fault) → lesser (lesser f g) h ≡ lesser f (lesser g h)
+pub lesser_all : (f g h : Option Fault) → lesser (lesser f g) h ≡ lesser f (lesser g h)
 lesser_all None g h = refl
 lesser_all (Some f) g h = lesser_joins f g h
 

@@ -1,15 +1,14 @@
 -- A document that was read lists events exactly where its value does.
-use Rattle.std.proofs.Common.{◌≡◌, ℕ, List, Option, Some, None, map, flat_map, take, option_map, refl, sym, ap, ◌∙◌, Result, Ok, Err}
+use Rattle.std.proofs.Common.{◌≡◌, List, Option, Some, None, map, flat_map, take, option_map, refl, sym, ap, ◌∙◌, Ok}
 use Rattle.std.specs.Prelude.{codes}
 use Rattle.serde_json.specs.Data.{Data}
 use Rattle.ds_plan.specs.declared.doc.Doc.{Doc}
-use Rattle.ds_plan.specs.declared.event.Event.{Event}
 use Rattle.ds_doc.specs.declared.fault.Fault.{Fault}
 use Rattle.ds_doc.specs.declared.draft.Draft.{Draft}
 use Rattle.ds_doc.specs.declared.draft.DraftEvent.{DraftEvent}
 use Rattle.ds_doc.specs.Places.{Spot, items, member}
 use Rattle.ds_doc.specs.Draft.{draft_by, draft_of, event_of, host_names}
-use Rattle.ds_doc.specs.Values.{doc_by, doc_of, happening, host_keys}
+use Rattle.ds_doc.specs.Values.{doc_by, doc_of, happening}
 use Rattle.ds_doc.specs.Reading.{answer_by, answer_of, fault_of, root_of}
 use Rattle.ds_doc.specs.Listing.{events_at}
 

@@ -1,5 +1,5 @@
 -- Codes 2 to 5: whether each value has the form that the table says, and stays in its limits.
-use Rattle.std.specs.Prelude.{ℕ, ◌%◌, List, [], ◌∷◌, ◌++◌, length, codes, Bool, true, false, ◌&&◌, ◌||◌, not, nat_le, nat_lt, ◌==◌, if◌then◌else◌, Option, Some, None, is_some, option_and_then, option_to_list, Result, Ok, Err, flat_map}
+use Rattle.std.specs.Prelude.{◌≡◌, ℕ, ◌%◌, List, [], ◌∷◌, ◌++◌, length, codes, Bool, true, false, ◌&&◌, ◌||◌, not, nat_le, nat_lt, ◌==◌, if◌then◌else◌, Option, Some, None, is_some, option_and_then, option_to_list, Result, Ok, Err, flat_map}
 use Rattle.std.specs.List.{list_all, list_any}
 use Rattle.serde_json.specs.Data.{Data, array, object, Items, no_items, item, Members, no_members}
 use Rattle.serde_json.specs.Data as json
@@ -8,6 +8,7 @@ use Rattle.hex.specs.Hex as hex
 use Rattle.ds_cert.specs.declared.cert.Cert.{Cert}
 use Rattle.ds_cert.specs.Reading.{read_cert}
 use Rattle.ds_doc.specs.declared.fault.Fault.{Fault}
+use Rattle.ds_doc.specs.declared.judge.Judged.{Judged}
 use Rattle.ds_doc.specs.declared.form.Form.{Form}
 use Rattle.ds_doc.specs.declared.form.Form.TheVariants.{Single, Listed, Object, Worded}
 use Rattle.ds_doc.specs.declared.form.Single as single_form
@@ -31,6 +32,11 @@ lesser None g = g
 lesser (Some f) None = Some f
 lesser (Some f) (Some g) = if is_before g f then Some g else Some f
 
+-- of the least code that a form's fault may have: none that stands behind it comes before it
+abbrev pub is_least : Option Fault → Bool
+is_least None = false
+is_least (Some f) = nat_le f.code 2
+
 -- the least fault
 abbrev pub least : List Fault → Option Fault
 least [] = None
@@ -42,6 +48,11 @@ fault code at = record { code = code; at = at } ∷ []
 -- a fault, unless the test holds
 abbrev pub unless : Bool → ℕ → ℕ → List Fault
 unless test code at = if test then [] else fault code at
+
+-- the least of these faults, and the place behind, unless the fault is of the least code
+pub record Tells (j : Judged) (faults : List Fault) (next : ℕ) : Type 0 where
+  pub found : j.fault ≡ least faults
+  pub behind : is_least j.fault ≡ false → j.next ≡ next
 
 abbrev pub listed : Items → List Data
 listed no_items = []

@@ -154,7 +154,7 @@ fn read_parts(alloc: Global, value: &Value) -> Result<(Doc, Vec<Option<TreeKey>>
     ensures answer { readings.AnswersBy (readings.answer_of (view value.now)) (readings.first_of result) }
     ensures trees { IfOk result (λ r. r.1.items ≡ map readings.identity (draft_of (readings.root_of (view value.now))).hosts) }
 {
-    let form = judge(alloc, Form::Object(Object::Document), 0, value)?;
+    let form = judge(alloc, Form::Object(Object::Document), 0, value)?.fault;
     if is_misshapen(form) {
         return Err(refusal(form));
     }

@@ -7,14 +7,14 @@ ghost use Rattle.std.specs.BTreeMap.{keys};
 ghost use Rattle.hex.specs.Hex as hexes;
 ghost use Rattle.serde_json.specs.View.{view, items_view, members_view};
 ghost use Rattle.ds_cert.specs.Reading.{read_cert};
-ghost use Rattle.ds_doc.specs.Places.{◌⊕◌, same_text};
+ghost use Rattle.ds_doc.specs.Places.{◌⊕◌, same_text, or_default, size as count_of, items_size as items_count, members_size as members_count};
 ghost use Rattle.ds_doc.specs.Shapes as shapes;
 ghost use Rattle.ds_doc.specs.Shapes.{least};
 ghost use Rattle.ds_doc.specs.declared.form.Form.TheVariants as forms;
 
 use crate::fault::{Fault, lesser, unless};
 use crate::form::{Form, Listed, Most, Object, Single, Worded};
-use crate::size::size;
+use crate::size::{items_size, size};
 use crate::text::{category_of, is_address, is_name, is_word, kind_of, register_of};
 use ds_cert::{Cert, CertFault};
 use hex::FromHexError;
@@ -42,30 +42,67 @@ const SEED_DIGITS: usize = 64;
 /// Hex digits of a key.
 const KEY_DIGITS: usize = 112;
 
-/// The least fault of a value and what is in it, with codes 2 to 5. `AllocError` where memory runs out.
+/// What judging a value found, and where the next value stands.
+#[derive(Clone, Copy)]
+pub(crate) struct Judged {
+    /// The least fault of the value and what is in it, with codes 2 to 5.
+    pub(crate) fault: Option<Fault>,
+    /// The place behind the value, where the fault isn't of the least code; else the judge doesn't look on.
+    pub(crate) next: u32,
+}
+
+/// Whether it is of the least code, so that none behind it comes before it.
+fn is_least(fault: Option<Fault>) -> bool
+    ensures { result ≡ shapes.is_least fault }
+{
+    match fault {
+        Some(fault) => fault.code <= LACKS,
+        None => false,
+    }
+}
+
+/// A value hasn't its form.
+fn misshapen(at: u32, value: &Value) -> Judged
+    ensures { shapes.Tells result (shapes.fault 4 at) (at ⊕ count_of (view value.now)) }
+{
+    Judged {
+        fault: unless(false, MISSHAPEN, at),
+        next: at.saturating_add(size(value)),
+    }
+}
+
+/// The value in this list that hasn't its form stands there.
+fn misshapen_in(there: u32, at: u32, items: &Vec<Value>) -> Judged
+    ensures { shapes.Tells result (shapes.fault 4 there) (at ⊕ items_count 1 (items_view items.now.items)) }
+{
+    Judged {
+        fault: unless(false, MISSHAPEN, there),
+        next: at.saturating_add(items_size(items)),
+    }
+}
+
+/// The least fault of a value and what is in it, and the place behind it. `AllocError` where memory runs out.
 #[tactic(auto, using(crate::proofs::Least::least_append, crate::proofs::Least::least_more, crate::proofs::Least::lesser_none, crate::proofs::Items::listed_view, crate::proofs::Items::listed_length))]
 #[cycle(judge)]
-pub(crate) fn judge(
-    alloc: Global,
-    form: Form,
-    at: u32,
-    value: &Value,
-) -> Result<Option<Fault>, AllocError>
-    ensures { IfOk result (λ f. f ≡ least (shapes.judged form at (view value.now))) }
+pub(crate) fn judge(alloc: Global, form: Form, at: u32, value: &Value) -> Result<Judged, AllocError>
+    ensures { IfOk result (λ j. shapes.Tells j (shapes.judged form at (view value.now)) (at ⊕ count_of (view value.now))) }
 {
     match form {
-        Form::Single(single) => single_fault(alloc, single, at, value),
+        Form::Single(single) => Ok(Judged {
+            fault: single_fault(alloc, single, at, value)?,
+            next: at.saturating_add(size(value)),
+        }),
         Form::Listed(listed) => match value {
             Value::Array(items) => judge_items(alloc, listed, at, items),
-            _ => Ok(unless(false, MISSHAPEN, at)),
+            _ => Ok(misshapen(at, value)),
         },
         Form::Object(object) => match value {
             Value::Object(members) => judge_members(alloc, object, at, members),
-            _ => Ok(unless(false, MISSHAPEN, at)),
+            _ => Ok(misshapen(at, value)),
         },
         Form::Worded(worded) => match value {
             Value::Array(items) => judge_words(alloc, worded, at, items),
-            _ => Ok(unless(false, MISSHAPEN, at)),
+            _ => Ok(misshapen(at, value)),
         },
     }
 }
@@ -77,32 +114,61 @@ fn judge_items(
     listed: Listed,
     at: u32,
     items: &Vec<Value>,
-) -> Result<Option<Fault>, AllocError>
-    ensures { IfOk result (λ f. f ≡ least (shapes.judged (forms.Listed listed) at (array (items_view items.now.items)))) }
+) -> Result<Judged, AllocError>
+    ensures { IfOk result (λ j. shapes.Tells j (shapes.judged (forms.Listed listed) at (array (items_view items.now.items)))
+        (at ⊕ items_count 1 (items_view items.now.items))) }
 {
     let beyond = unless(is_within(alloc, listed.most(), items)?, BEYOND, at);
     let found = judge_all(alloc, listed.item(), at.saturating_add(1), items)?;
-    Ok(lesser(beyond, found))
+    Ok(Judged {
+        fault: lesser(beyond, found.fault),
+        next: found.next,
+    })
 }
 
-/// The least fault of items of one form, the first of them at that place.
+/// The least fault of items of one form, the first of them at that place, and the place behind them.
 #[tactic(auto, using(crate::proofs::Least::least_more, crate::proofs::Least::lesser_none))]
 #[cycle(judge)]
-fn judge_all(
-    alloc: Global,
-    form: Form,
-    at: u32,
-    items: &Vec<Value>,
-) -> Result<Option<Fault>, AllocError>
-    ensures { IfOk result (λ f. f ≡ least (shapes.judged_items form at (items_view items.now.items))) }
+fn judge_all(alloc: Global, form: Form, at: u32, items: &Vec<Value>) -> Result<Judged, AllocError>
+    ensures { IfOk result (λ j. shapes.Tells j (shapes.judged_items form at (items_view items.now.items)) (items_count at (items_view items.now.items))) }
 {
     let mut found = None;
     let mut place = at;
     for item in items {
-        found = lesser(found, judge(alloc, form, place, item)?);
-        place = place.saturating_add(size(item));
+        let judged = judge(alloc, form, place, item)?;
+        found = lesser(found, judged.fault);
+        if is_least(judged.fault) {
+            return Ok(Judged {
+                fault: found,
+                next: place,
+            });
+        }
+        place = judged.next;
     }
-    Ok(found)
+    Ok(Judged {
+        fault: found,
+        next: place,
+    })
+}
+
+/// What judging the member of this form found, of no form where there is no such member.
+#[cycle(judge)]
+fn judge_member(
+    alloc: Global,
+    form: Option<Form>,
+    at: u32,
+    member: &Value,
+) -> Result<Judged, AllocError>
+    ensures { IfOk result (λ j. shapes.Tells j (or_default (shapes.fault 3 at) (λ form. shapes.judged form at (view member.now)) form)
+        (at ⊕ count_of (view member.now))) }
+{
+    match form {
+        Some(form) => judge(alloc, form, at, member),
+        None => Ok(Judged {
+            fault: unless(false, STRANGE, at),
+            next: at.saturating_add(size(member)),
+        }),
+    }
 }
 
 #[tactic(auto, using(crate::proofs::Least::least_append, crate::proofs::Least::least_more, crate::proofs::Least::lesser_none, crate::proofs::Items::listed_view, crate::proofs::Items::listed_length))]
@@ -112,20 +178,33 @@ fn judge_members(
     object: Object,
     at: u32,
     members: &Map<String, Value>,
-) -> Result<Option<Fault>, AllocError>
-    ensures { IfOk result (λ f. f ≡ least (shapes.judged (forms.Object object) at (object_data (members_view members.now.entries)))) }
+) -> Result<Judged, AllocError>
+    ensures { IfOk result (λ j. shapes.Tells j (shapes.judged (forms.Object object) at (object_data (members_view members.now.entries)))
+        (at ⊕ members_count 1 (members_view members.now.entries))) }
 {
     let mut found = whole_fault(object, at, members);
+    if is_least(found) {
+        return Ok(Judged {
+            fault: found,
+            next: at,
+        });
+    }
     let mut place = at.saturating_add(1);
     for (name, member) in members.iter() {
-        let fault = match object.member(name.as_str()) {
-            Some(form) => judge(alloc, form, place, member)?,
-            None => unless(false, STRANGE, place),
-        };
-        found = lesser(found, fault);
-        place = place.saturating_add(size(member));
+        let judged = judge_member(alloc, object.member(name.as_str()), place, member)?;
+        found = lesser(found, judged.fault);
+        if is_least(judged.fault) {
+            return Ok(Judged {
+                fault: found,
+                next: place,
+            });
+        }
+        place = judged.next;
     }
-    Ok(found)
+    Ok(Judged {
+        fault: found,
+        next: place,
+    })
 }
 
 #[tactic(auto, using(crate::proofs::Least::least_append, crate::proofs::Least::least_more, crate::proofs::Least::lesser_none, crate::proofs::Items::listed_view, crate::proofs::Items::listed_length))]
@@ -135,23 +214,24 @@ fn judge_words(
     worded: Worded,
     at: u32,
     items: &Vec<Value>,
-) -> Result<Option<Fault>, AllocError>
-    ensures { IfOk result (λ f. f ≡ least (shapes.judged (forms.Worded worded) at (array (items_view items.now.items)))) }
+) -> Result<Judged, AllocError>
+    ensures { IfOk result (λ j. shapes.Tells j (shapes.judged (forms.Worded worded) at (array (items_view items.now.items)))
+        (at ⊕ items_count 1 (items_view items.now.items))) }
 {
     let Some(word) = items.first() else {
-        return Ok(unless(false, MISSHAPEN, at));
+        return Ok(misshapen_in(at, at, items));
     };
     let place = at.saturating_add(1);
     let Some(forms) = arguments(worded, word) else {
-        return Ok(unless(false, MISSHAPEN, place));
+        return Ok(misshapen_in(place, at, items));
     };
     if !is_count(items, forms) {
-        return Ok(unless(false, MISSHAPEN, at));
+        return Ok(misshapen_in(at, at, items));
     }
     judge_each(alloc, forms, place.saturating_add(size(word)), items)
 }
 
-/// The least fault of what stands behind the word.
+/// The least fault of what stands behind the word, and the place behind that.
 #[tactic(auto, using(crate::proofs::Least::least_append, crate::proofs::Least::least_more, crate::proofs::Least::lesser_none))]
 #[cycle(judge)]
 fn judge_each(
@@ -159,18 +239,28 @@ fn judge_each(
     forms: &[Form],
     at: u32,
     items: &Vec<Value>,
-) -> Result<Option<Fault>, AllocError>
+) -> Result<Judged, AllocError>
     requires { length items.now.items ≡ length forms.now + 1 }
-    ensures { IfOk result (λ f. f ≡ least (shapes.judged_each forms.now at (items_view (drop 1 items.now.items)))) }
+    ensures { IfOk result (λ j. shapes.Tells j (shapes.judged_each forms.now at (items_view (drop 1 items.now.items)))
+        (items_count at (items_view (drop 1 items.now.items)))) }
 {
     let mut found = None;
     let mut place = at;
     for index in 0..forms.len() {
-        let item = &items[index + 1];
-        found = lesser(found, judge(alloc, forms[index], place, item)?);
-        place = place.saturating_add(size(item));
+        let judged = judge(alloc, forms[index], place, &items[index + 1])?;
+        found = lesser(found, judged.fault);
+        if is_least(judged.fault) {
+            return Ok(Judged {
+                fault: found,
+                next: place,
+            });
+        }
+        place = judged.next;
     }
-    Ok(found)
+    Ok(Judged {
+        fault: found,
+        next: place,
+    })
 }
 
 /// Whether so many values stand behind the word as there are forms.

@@ -19,7 +19,7 @@ pub(crate) fn size(value: &Value) -> u32
 }
 
 #[cycle(size)]
-fn items_size(items: &Vec<Value>) -> u32
+pub(crate) fn items_size(items: &Vec<Value>) -> u32
     ensures { result ≡ items_size 1 (items_view items.now.items) }
 {
     let mut count = 1u32;
