@@ -145,7 +145,8 @@ pub fn act_in<K: Keeper>(
     requires left { max (last_of_desk desk.old) stamp < 2 ^ 64 - 1 }
     requires may { MayAct desk.old.here act }
     ensures reply { (s : Scheme) (plan : HostPlan) → IfOk result (λ p. p.1 ≡ answer_for s plan desk.old act) }
-    ensures receipt { (s : Scheme) (plan : HostPlan) → IfOk result (λ p. p.0 ≡ desk_receipt desk.old stamp (change_for s plan desk.old act) (given_for act p.1)) }
+    ensures receipt { (s : Scheme) (plan : HostPlan) → IfOk result (λ p.
+        p.0 ≡ desk_receipt desk.old stamp (change_for s plan desk.old act) (given_for act p.1)) }
     ensures says { IfOk result (λ p. SaysOf act p.1 p.0.act p.0.body p.0.given) }
     ensures state { (s : Scheme) (plan : HostPlan) → IfOk result (λ p. desk.new ≡ entered p.0.stamp who (change_for s plan desk.old act) desk.old) }
     ensures err { OnErr result (desk.new ≡ desk.old) }

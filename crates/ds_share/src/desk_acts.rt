@@ -132,7 +132,8 @@ pub(crate) fn delegate<K: Keeper>(
     requires kept { IsKept desk.old }
     requires later { last_stamp desk.old < stamp }
     ensures told { (s : Scheme) (plan : HostPlan) → IfOk result (λ t.
-        t ≡ told (entry_for s plan (kept_of desk.old) (Delegating category to from until)) (given_by_desk t.reply) (answer_of (reply_for s plan (kept_of desk.old) (Delegating category to from until)))) }
+        t ≡ told (entry_for s plan (kept_of desk.old) (Delegating category to from until)) (given_by_desk t.reply)
+        (answer_of (reply_for s plan (kept_of desk.old) (Delegating category to from until)))) }
     ensures says { IfOk result (Tells SaysOfDelegating) }
     ensures state { (s : Scheme) (plan : HostPlan) → OnOk result
         (kept_of desk.new ≡ entered stamp who (entry_for s plan (kept_of desk.old) (Delegating category to from until)) (kept_of desk.old)) }
@@ -188,7 +189,8 @@ pub(crate) fn import(
     requires kept { IsKept desk.old }
     requires later { last_stamp desk.old < stamp }
     ensures told { (s : Scheme) (plan : HostPlan) → IfOk result (λ t.
-        t ≡ told (entry_for s plan (kept_of desk.old) (Importing cert)) (given_by_desk t.reply) (answer_of (reply_for s plan (kept_of desk.old) (Importing cert)))) }
+        t ≡ told (entry_for s plan (kept_of desk.old) (Importing cert)) (given_by_desk t.reply)
+        (answer_of (reply_for s plan (kept_of desk.old) (Importing cert)))) }
     ensures says { IfOk result (Tells (SaysOfImporting cert)) }
     ensures state { (s : Scheme) (plan : HostPlan) → OnOk result
         (kept_of desk.new ≡ entered stamp who (entry_for s plan (kept_of desk.old) (Importing cert)) (kept_of desk.old)) }
@@ -247,7 +249,8 @@ pub(crate) fn map_foreign(
     requires later { last_stamp desk.old < stamp }
     requires name { is_stray desk.old.here name ≡ false }
     ensures told { (s : Scheme) (plan : HostPlan) → IfOk result (λ t.
-        t ≡ told (entry_for s plan (kept_of desk.old) (Mapping name)) (given_by_desk t.reply) (answer_of (reply_for s plan (kept_of desk.old) (Mapping name)))) }
+        t ≡ told (entry_for s plan (kept_of desk.old) (Mapping name)) (given_by_desk t.reply)
+        (answer_of (reply_for s plan (kept_of desk.old) (Mapping name)))) }
     ensures says { IfOk result (Tells (SaysOfMapping name)) }
     ensures state { (s : Scheme) (plan : HostPlan) → OnOk result
         (kept_of desk.new ≡ entered stamp who (entry_for s plan (kept_of desk.old) (Mapping name)) (kept_of desk.old)) }

@@ -16,7 +16,8 @@ ghost use Rattle.ds_flow.specs.Judged.{Judges};
 ghost use Rattle.ds_desk.specs.Desks.{IsKept, entered, kept_of, last_stamp};
 ghost use Rattle.ds_share.specs.declared.desk_act.DeskAct.TheVariants as acts;
 ghost use Rattle.ds_share.specs.declared.desk_act.DeskReply.TheVariants as replies;
-ghost use Rattle.ds_share.specs.Desks.{HasShortCerts, IsArrivalAnswer, IsFrameAnswer, IsSendAnswer, SaysOfJudging, address_in, answer_for, given_by_judge, judged, spelling_of_rule};
+ghost use Rattle.ds_share.specs.Desks.{HasShortCerts, IsArrivalAnswer, IsFrameAnswer, IsSendAnswer, SaysOfJudging};
+ghost use Rattle.ds_share.specs.Desks.{address_in, answer_for, given_by_judge, judged, spelling_of_rule};
 ghost use Rattle.ds_share.specs.Spelling.{spelling_of_numbers};
 ghost use Rattle.ds_share.specs.Tells.{Tells, told};
 
@@ -85,7 +86,8 @@ fn named_bytes(
     own: &LocalLabel,
     clear: &LocalLabel,
 ) -> Result<Bytes, AllocError>
-    ensures { IfOk result (λ bytes. bytes ≡ to_be_bytes w8 0 ++ spelling_of_numbers label.now ++ spelling_of_numbers own.now ++ spelling_of_numbers clear.now) }
+    ensures { IfOk result (λ bytes.
+        bytes ≡ to_be_bytes w8 0 ++ spelling_of_numbers label.now ++ spelling_of_numbers own.now ++ spelling_of_numbers clear.now) }
 {
     let mut out = passed_bytes(alloc)?;
     append_numbers(&mut out, label)?;
@@ -155,7 +157,8 @@ fn send_rule(
     to: &PubKey,
     label: &Label,
 ) -> Result<Option<Rule>, AllocError>
-    ensures rule { (s : Scheme) → IfOk result (λ rule. rule ≡ judge_send (flow_scheme s) lane desk.old.addresses.items desk.old.store.items desk.old.moment to.now label.now) }
+    ensures rule { (s : Scheme) → IfOk result (λ rule. rule ≡
+        judge_send (flow_scheme s) lane desk.old.addresses.items desk.old.store.items desk.old.moment to.now label.now) }
     ensures same { desk.new ≡ desk.old }
 {
     verdict(judge_send(
@@ -224,7 +227,8 @@ fn frame_rule(
     to: &PubKey,
     label: &Label,
 ) -> Result<Option<Rule>, AllocError>
-    ensures rule { (s : Scheme) → IfOk result (λ rule. rule ≡ sender_rule (flow_scheme s) desk.old.addresses.items desk.old.store.items desk.old.moment to.now label.now) }
+    ensures rule { (s : Scheme) → IfOk result (λ rule. rule ≡
+        sender_rule (flow_scheme s) desk.old.addresses.items desk.old.store.items desk.old.moment to.now label.now) }
     ensures same { desk.new ≡ desk.old }
 {
     verdict(judge_frame(
