@@ -1,1 +1,4 @@
 mod Pieces
+mod Tellings
+mod Arrivals
+mod Judgements

@@ -80,7 +80,8 @@ pub fn accept_in(
     requires spelled { body ≡ to_be_bytes w32 number }
     ensures receipt { result.0 ≡ inlet_receipt state.old.inlet stamp (number_entry number state.old.inlet.number) }
     ensures state { state.new.inlet ≡ entered result.0.stamp who (number_entry number state.old.inlet.number) state.old.inlet }
-    ensures stale { MatchOption result.1 (is_fresh number state.old.inlet.number ≡ true) (λ s. (state.old.inlet.number ≡ Some s.last) × (nat_lt s.last number ≡ false)) }
+    ensures stale { MatchOption result.1 (is_fresh number state.old.inlet.number ≡ true)
+        (λ s. (state.old.inlet.number ≡ Some s.last) × (nat_lt s.last number ≡ false)) }
 {
     let stamp = stamp_after(state.last_stamp(), stamp);
     let place = state.history().len() as u64;

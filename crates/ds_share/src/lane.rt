@@ -171,7 +171,8 @@ pub fn admit_in(
     requires same { kept ≡ message }
     requires spelled { body ≡ spelling_of_message message }
     ensures receipt { result ≡ lane_receipt state.old.lane stamp (admit_entry state.old.lane.room (sent_by who.index message) state.old.lane.waiting) [] }
-    ensures state { state.new.lane ≡ entered result.stamp who (admit_entry state.old.lane.room (sent_by who.index message) state.old.lane.waiting) state.old.lane }
+    ensures state { state.new.lane ≡
+        entered result.stamp who (admit_entry state.old.lane.room (sent_by who.index message) state.old.lane.waiting) state.old.lane }
 {
     let stamp = stamp_after(state.last(), stamp);
     let place = state.history().len() as u64;
@@ -226,7 +227,8 @@ pub fn lift_in(
     ensures lifted { IfOk result (λ p. p.1 ≡ front state.old.lane.waiting) }
     ensures on { IfOk result (λ p. All (WaitsOn state.old.lane.cert) p.1) }
     ensures some { IfOk result (λ p. 0 < length p.1) }
-    ensures receipt { IfOk result (λ p. p.0 ≡ lane_receipt state.old.lane stamp (lift_entry state.old.lane.waiting) (flat_map spelling_of_waiting p.1)) }
+    ensures receipt { IfOk result (λ p.
+        p.0 ≡ lane_receipt state.old.lane stamp (lift_entry state.old.lane.waiting) (flat_map spelling_of_waiting p.1)) }
     ensures state { IfOk result (λ p. state.new.lane ≡ entered p.0.stamp who (lift_entry state.old.lane.waiting) state.old.lane) }
     ensures idle { (result ≡ Err LiftEnd.Idle) ↔ (state.old.lane.waiting ≡ []) }
     ensures err { OnErr result (state.new.lane ≡ state.old.lane) }

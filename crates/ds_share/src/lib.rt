@@ -1,4 +1,4 @@
-//! A host's objects behind locks, for hosts that run on threads: mailboxes, lanes and inlets. Each locked object keeps
+//! A host's objects behind locks, for hosts that run on threads: mailboxes, lanes, inlets and the desk. Each locked object keeps
 //! that its state is the replay of its history and that the stamps rise. Each shared call makes one event, enters it in the
 //! object's history and answers a receipt of it.
 //!
@@ -7,13 +7,20 @@
 //! lock at any time. Where no stamp is left the call takes the lock again and again.
 #![tactic(auto)]
 
+mod desk;
+mod desk_act;
+mod desk_acts;
+mod desk_judging;
 mod inlet;
 mod lane;
 mod lending;
 mod mailbox;
 mod receipt;
 mod spelling;
+mod told;
 
+pub use desk::{LockedDesk, SharedDesk, act_in};
+pub use desk_act::{DeskAct, DeskReply, TurnFault};
 pub use inlet::{SharedInlet, accept_in};
 pub use lane::{SharedLane, admit_in, lift_in};
 pub use mailbox::{SharedBox, TakeEnd, put_in, take_in};

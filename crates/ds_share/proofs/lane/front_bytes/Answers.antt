@@ -1,6 +1,5 @@
-use Rattle.std.proofs.Common.{◌≡◌, ◌+◌, ◌++◌, ◌∷◌, [], Some, take, sym, ap, ◌∙◌}
+use Rattle.std.proofs.Common.{◌≡◌, Some, sym, ap, ◌∙◌}
 use Rattle.std.specs.Prelude.{slice_get, option_copied}
-use Rattle.std.specs.List.{flat_map}
 use Rattle.ds_share.specs.Spelling.{spelling_of_waiting}
 use Rattle.ds_share.proofs.Pieces.{one_spelled}
 use Rattle.ds_share.proofs.lane.front_bytes.Goals as goal
