@@ -7,8 +7,7 @@ ghost use Rattle.ds_plan.specs.Keys.{identity_key};
 ghost use Rattle.ds_plan.specs.Documents.{IsDocument};
 ghost use Rattle.ds_boot.specs.AllKeys.{AreKeysOf, HasFewLanes, lane_trees, trees_of};
 
-use crate::forked;
-use crate::trees;
+use crate::{forked, trees};
 use ds_plan::{Doc, HostSpec};
 use lms_sig::TreeKey;
 use std::alloc::{AllocError, Global};
@@ -79,21 +78,5 @@ pub fn make_keys_in_threads<R: Threads + Sync>(
     ensures { IfOk result (λ keys. AreKeysOf doc.now keys) }
 {
     let (identities, lanes) = made_at_once(rt, alloc, doc.hosts.as_slice())?;
-    Ok(DocKeys { identities, lanes })
-}
-
-/// All keys of a document of which the hosts' identity keys are made, the keys of its lanes made at once, each in a thread of its own
-/// where one can be made. `AllocError` where memory runs out.
-pub fn make_lane_keys_in_threads<R: Threads + Sync>(
-    rt: &R,
-    alloc: Global,
-    doc: &Doc,
-    identities: Vec<Option<TreeKey>>,
-) -> Result<DocKeys, AllocError>
-    requires document { IsDocument doc.now }
-    requires identities { identities.items ≡ map identity_key doc.now.hosts }
-    ensures { IfOk result (λ keys. AreKeysOf doc.now keys) }
-{
-    let lanes = forked::each_lane_trees(rt, alloc, doc.hosts.as_slice())?;
     Ok(DocKeys { identities, lanes })
 }

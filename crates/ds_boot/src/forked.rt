@@ -15,10 +15,7 @@ use std::thread;
 use std::thread::Threads;
 
 /// What was made, if all could be made. `AllocError` where memory ran out, for one of them or here.
-fn all_made<T: Drop>(
-    alloc: Global,
-    made: Vec<Result<T, AllocError>>,
-) -> Result<Vec<T>, AllocError>
+fn all_made<T: Drop>(alloc: Global, made: Vec<Result<T, AllocError>>) -> Result<Vec<T>, AllocError>
     ensures { IfOk result (λ all. map Ok all.items ≡ made.items) }
 {
     let mut all = Vec::new(alloc);
@@ -127,7 +124,12 @@ fn identity_results<R: Threads + Sync>(
     ensures each { IfOk result (λ made. (i : ℕ) (d : _) (h : _) → i < length hosts.now
         → IfOk (slice_index_or made.items i d) (λ tree. tree ≡ identity_key (slice_index_or hosts.now i h))) }
 {
-    thread::map_indices(rt, alloc, hosts.len(), &|at| identity_tree(alloc, &hosts[at]))
+    thread::map_indices(
+        rt,
+        alloc,
+        hosts.len(),
+        &|at| identity_tree(alloc, &hosts[at]),
+    )
 }
 
 /// The identity key of each host, all made at once. `AllocError` where memory runs out.

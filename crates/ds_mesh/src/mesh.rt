@@ -9,9 +9,10 @@ ghost use Rattle.ds_mesh.specs.Meshes.{IsMeshTextOf, event_lines};
 
 use crate::running::run_in_threads;
 use ds_base::Gate;
+use ds_boot::make_keys_in_threads;
 use ds_plan::{Doc, Event};
 use ds_report::{push_event, text};
-use ds_sim::setup;
+use ds_sim::setup_with;
 use ds_world::World;
 use itoa::Buffer;
 use std::alloc::{AllocError, Global};
@@ -63,7 +64,7 @@ fn print_run(alloc: Global, world: &World, events: &[Event]) -> Result<Vec<u8>, 
 }
 
 /// The text of a run in threads of a document that was read: `mesh N`, the N events that the hosts made, each on a line, and the text
-/// of the run by these events. In a phase all hosts run at once, each in a thread of its own where one can be made; the events are
+/// of the run by these events. All keys are made at once, each in a thread of its own where one can be made. In a phase all hosts run at once, each in a thread of its own where one can be made; the events are
 /// listed phase by phase, and in a phase host by host. Events that the document lists aren't read. A gate is passed before a message
 /// is put into a mailbox. `AllocError` where memory runs out.
 pub fn mesh_text<R: Threads + Sync, G: Gate + Sync>(
@@ -76,7 +77,8 @@ pub fn mesh_text<R: Threads + Sync, G: Gate + Sync>(
     ensures { IfOk result (λ text. IsMeshTextOf doc text.items) }
 {
     let budget = doc.budget;
-    let world = setup(alloc, doc)?;
+    let keys = make_keys_in_threads(rt, alloc, &doc)?;
+    let world = setup_with(alloc, doc, keys)?;
     world.hands();
     let ran = run_in_threads(rt, gate, world, budget)?;
     let text = print_run(alloc, &ran.world, ran.events.as_slice())?;
