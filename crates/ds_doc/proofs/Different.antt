@@ -1,5 +1,5 @@
 -- How many different texts a list has.
-use Rattle.std.proofs.Common.{◌≡◌, Bor, ◌||◌, ℕ, suc, ◌+◌, ◌<◌, ◌≤◌, List, [], ◌∷◌, ◌++◌, length, map, flat_map, Option, Some, None, Bool, true, false, nat_le, option_to_list, arith, refl, sym, ap}
+use Rattle.std.proofs.Common.{◌≡◌, ℕ, suc, ◌+◌, ◌<◌, ◌≤◌, List, [], ◌∷◌, ◌++◌, length, map, flat_map, Option, Some, None, Bool, true, false, nat_le, option_to_list, arith, refl, sym, ap}
 use Rattle.std.proofs.lemmas.Bool.Decides.{nat_tests}
 use Rattle.std.specs.List.{list_any}
 use Rattle.std.proofs.lemmas.List.{length-map}
@@ -64,10 +64,6 @@ too_long before texts all most e h = rw (sym e) (large (length (different_from b
 pub joined : (before xs ys : List (List ℕ)) → different_from (different_from before xs) ys ≡ different_from before (xs ++ ys)
 joined before [] ys = refl
 joined before (x ∷ xs) ys = joined_by before xs ys x (list_any (λ t. same_text t x) before) refl (joined before xs ys) (joined (before ++ x ∷ []) xs ys)
-
-pub any_seen : (ts : List (Bor (List ℕ))) (s : List ℕ) → list_any (λ t. same_text t s) (map (λ t. t.now) ts) ≡ list_any (λ t. same_text t.now s) ts
-any_seen [] s = refl
-any_seen (t ∷ ts) s = ap (λ b. same_text t.now s || b) (any_seen ts s)
 
 pub unchanged : (before : List (List ℕ)) (s : List ℕ) → list_any (λ t. same_text t s) before ≡ true → before ≡ different_from before (s ∷ [])
 unchanged before s e = rw e refl

@@ -3,6 +3,7 @@ pub mod Least
 pub mod Members
 pub mod Items
 pub mod Different
+pub mod Once
 pub mod Between
 pub mod Judging
 pub mod Faults

@@ -9,3 +9,4 @@ pub mod Rules
 pub mod Values
 pub mod Reading
 pub mod Listing
+pub mod Alike

@@ -8,6 +8,7 @@ ghost use Rattle.hex.specs.Hex as hexes;
 ghost use Rattle.serde_json.specs.View.{view, items_view, members_view};
 ghost use Rattle.ds_cert.specs.Reading.{read_cert};
 ghost use Rattle.ds_doc.specs.Places.{◌⊕◌, same_text, or_default, size as count_of, items_size as items_count, members_size as members_count};
+ghost use Rattle.ds_doc.specs.Alike.{AreAlike};
 ghost use Rattle.ds_doc.specs.Shapes as shapes;
 ghost use Rattle.ds_doc.specs.Shapes.{least};
 ghost use Rattle.ds_doc.specs.declared.form.Form.TheVariants as forms;
@@ -20,6 +21,7 @@ use ds_cert::{Cert, CertFault};
 use hex::FromHexError;
 use serde_json::{Map, Value};
 use std::alloc::{AllocError, Global};
+use std::collections::BTreeSet;
 
 /// An object lacks a member.
 const LACKS: u8 = 2;
@@ -289,20 +291,6 @@ fn is_within(alloc: Global, most: Most, items: &[Value]) -> Result<bool, AllocEr
     }
 }
 
-fn is_among(texts: &[&str], text: &str) -> bool
-    ensures { result ≡ list_any (λ t. same_text t.now text.now) texts.now }
-{
-    texts.iter().any(|t| *t == text)
-}
-
-/// Whether the text is one of those.
-#[tactic(auto, using(crate::proofs::Different::any_seen))]
-fn has_text(texts: &[&str], text: &str) -> bool
-    ensures { result ≡ list_any (λ t. same_text t text.now) (map (λ t. t.now) texts.now) }
-{
-    is_among(texts, text)
-}
-
 /// Whether the items are at most so many different texts.
 #[tactic(auto, using(crate::proofs::Different::joined, crate::proofs::Different::too_long))]
 fn has_few_texts(alloc: Global, most: usize, items: &[Value]) -> Result<bool, AllocError>
@@ -312,21 +300,28 @@ fn has_few_texts(alloc: Global, most: usize, items: &[Value]) -> Result<bool, Al
         return Ok(true);
     }
     let mut texts: Vec<&str> = Vec::new(alloc);
+    let mut known: BTreeSet<&str> = BTreeSet::new(alloc);
     for item in items {
         if texts.len() > most {
             return Ok(false);
         }
-        add_text(&mut texts, item)?;
+        add_text(&mut texts, &mut known, item)?;
     }
     Ok(texts.len() <= most)
 }
 
-/// Appends the text that a value is, unless it is there.
-fn add_text<'v>(texts: &mut Vec<&'v str>, item: &'v Value) -> Result<(), AllocError>
-    ensures { OnOk result (map (λ t. t.now) texts.new.items ≡ shapes.different_from (map (λ t. t.now) texts.old.items) (shapes.text_of (view item.now))) }
+/// Appends the text that a value is, unless it is there. The set finds the texts that are there.
+fn add_text<'v>(
+    texts: &mut Vec<&'v str>,
+    known: &mut BTreeSet<&'v str>,
+    item: &'v Value,
+) -> Result<(), AllocError>
+    requires { AreAlike (map (λ t. t.now) known.old.keys) (map (λ t. t.now) texts.old.items) }
+    ensures texts { OnOk result (map (λ t. t.now) texts.new.items ≡ shapes.different_from (map (λ t. t.now) texts.old.items) (shapes.text_of (view item.now))) }
+    ensures known { OnOk result (AreAlike (map (λ t. t.now) known.new.keys) (map (λ t. t.now) texts.new.items)) }
 {
     if let Some(text) = item.as_str() {
-        if !has_text(texts.as_slice(), text) {
+        if known.insert(text)? {
             texts.push(text)?;
         }
     }

@@ -12,5 +12,5 @@ pub returns-then-len-most : goal.returns-then-len-most
 returns-then-len-most c =
     let l = c.loop-item in
     let many : c.args.most < length l.texts.items = search rules in
-    too_long (map (λ t. t.now) l.texts.items) (flat_map text_of (map view (drop l.item-index c.args.items.now))) _ c.args.most l.invariant
+    too_long (map (λ t. t.now) l.texts.items) (flat_map text_of (map view (drop l.item-index c.args.items.now))) _ c.args.most l.invariant.same
     (omega (arith, many, length-map l.texts.items (λ t. t.now)))
