@@ -1,17 +1,16 @@
 //! The keys that the hosts of a document and their lanes sign with.
 #![tactic(auto)]
 
-ghost use Rattle.std.specs.Prelude.{◌≡◌, map, All, IfOk};
-ghost use Rattle.std.specs.Thread.{IsSync};
+ghost use Rattle.std.specs.Prelude.{◌≡◌, map, IfOk};
 ghost use Rattle.ds_plan.specs.Keys.{identity_key};
 ghost use Rattle.ds_plan.specs.Documents.{IsDocument};
-ghost use Rattle.ds_boot.specs.AllKeys.{AreKeysOf, HasFewLanes, lane_trees, trees_of};
+ghost use Rattle.ds_boot.specs.AllKeys.{AreKeysOf};
 
 use crate::{forked, trees};
-use ds_plan::{Doc, HostSpec};
+use ds_plan::Doc;
 use lms_sig::TreeKey;
 use std::alloc::{AllocError, Global};
-use std::thread::{Threads, join};
+use std::thread::Threads;
 
 /// The keys that the hosts of a document and their lanes sign with, by the hosts' places.
 #[derive(Drop)]
@@ -46,37 +45,18 @@ pub fn make_lane_keys(
     Ok(DocKeys { identities, lanes })
 }
 
-/// The identity keys of hosts and the keys of their lanes, all made at once. `AllocError` where memory runs out.
-fn made_at_once<R: Threads + Sync>(
-    rt: &R,
-    alloc: Global,
-    hosts: &[HostSpec],
-) -> Result<(Vec<Option<TreeKey>>, Vec<Vec<TreeKey>>), AllocError>
-    requires { All HasFewLanes hosts.now }
-    ensures identities { IfOk result (λ r. r.0.items ≡ map identity_key hosts.now) }
-    ensures lanes { IfOk result (λ r. map trees_of r.1.items ≡ map lane_trees hosts.now) }
-{
-    let (identities, lanes) = join(
-        rt,
-        || forked::identity_trees(rt, alloc, hosts),
-        || -> Result<Vec<Vec<TreeKey>>, AllocError>
-            requires { IsSync R.row × All HasFewLanes hosts.now }
-            ensures { IfOk result (λ lanes. map trees_of lanes.items ≡ map lane_trees hosts.entry.now) }
-        { forked::each_lane_trees(rt, alloc, hosts) },
-    );
-    Ok((identities?, lanes?))
-}
-
-/// All keys of a document, made at once, each in a thread of its own where one can be made: the same as `make_keys` makes.
-/// `AllocError` where memory runs out.
-pub fn make_keys_in_threads<R: Threads + Sync>(
+/// All keys of a document of which the hosts' identity keys are made, the keys of its lanes made at once, each in a thread of its own
+/// where one can be made: the same as `make_lane_keys` makes. `AllocError` where memory runs out.
+pub fn make_lane_keys_in_threads<R: Threads + Sync>(
     rt: &R,
     alloc: Global,
     doc: &Doc,
+    identities: Vec<Option<TreeKey>>,
 ) -> Result<DocKeys, AllocError>
-    requires { IsDocument doc.now }
+    requires document { IsDocument doc.now }
+    requires identities { identities.items ≡ map identity_key doc.now.hosts }
     ensures { IfOk result (λ keys. AreKeysOf doc.now keys) }
 {
-    let (identities, lanes) = made_at_once(rt, alloc, doc.hosts.as_slice())?;
+    let lanes = forked::each_lane_trees(rt, alloc, doc.hosts.as_slice())?;
     Ok(DocKeys { identities, lanes })
 }

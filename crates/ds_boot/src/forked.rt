@@ -1,13 +1,12 @@
-//! Keys of hosts and of their lanes, made at once, each in a thread of its own where one can be made.
+//! Keys of lanes, made at once, each in a thread of its own where one can be made.
 #![tactic(auto)]
 
 ghost use Rattle.std.specs.Prelude.{◌≡◌, ◌<◌, ◌≤◌, ℕ, Ok, false, map, length, All, IfOk, slice_index_or};
 ghost use Rattle.std.specs.Thread.{IsSync};
-ghost use Rattle.ds_plan.specs.Keys.{identity_key};
 ghost use Rattle.ds_plan.specs.Documents.{is_silent};
 ghost use Rattle.ds_boot.specs.AllKeys.{HasFewLanes, lane_tree_at, lane_trees, trees_of};
 
-use crate::trees::{identity_tree, lane_tree};
+use crate::trees::lane_tree;
 use ds_plan::{HostSpec, Secret};
 use lms_sig::TreeKey;
 use std::alloc::{AllocError, Global};
@@ -110,37 +109,6 @@ pub fn each_lane_trees<R: Threads + Sync>(
     ensures { IfOk result (λ trees. map trees_of trees.items ≡ map lane_trees hosts.now) }
 {
     let made = host_results(rt, alloc, hosts)?;
-    let trees = all_made(alloc, made)?;
-    Ok(trees)
-}
-
-/// The identity key of each host, or that memory ran out for one.
-fn identity_results<R: Threads + Sync>(
-    rt: &R,
-    alloc: Global,
-    hosts: &[HostSpec],
-) -> Result<Vec<Result<Option<TreeKey>, AllocError>>, AllocError>
-    ensures count { IfOk result (λ made. length made.items ≡ length hosts.now) }
-    ensures each { IfOk result (λ made. (i : ℕ) (d : _) (h : _) → i < length hosts.now
-        → IfOk (slice_index_or made.items i d) (λ tree. tree ≡ identity_key (slice_index_or hosts.now i h))) }
-{
-    thread::map_indices(
-        rt,
-        alloc,
-        hosts.len(),
-        &|at| identity_tree(alloc, &hosts[at]),
-    )
-}
-
-/// The identity key of each host, all made at once. `AllocError` where memory runs out.
-pub fn identity_trees<R: Threads + Sync>(
-    rt: &R,
-    alloc: Global,
-    hosts: &[HostSpec],
-) -> Result<Vec<Option<TreeKey>>, AllocError>
-    ensures { IfOk result (λ trees. trees.items ≡ map identity_key hosts.now) }
-{
-    let made = identity_results(rt, alloc, hosts)?;
     let trees = all_made(alloc, made)?;
     Ok(trees)
 }

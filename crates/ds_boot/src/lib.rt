@@ -18,5 +18,5 @@ mod signing;
 mod trees;
 
 pub use booting::{boot, boot_keyed, boot_with};
-pub use doc_keys::{DocKeys, make_keys, make_keys_in_threads, make_lane_keys};
+pub use doc_keys::{DocKeys, make_keys, make_lane_keys, make_lane_keys_in_threads};
 pub use laws::{connections_begin_so, hosts_begin_so, silent_hosts_begin_so};

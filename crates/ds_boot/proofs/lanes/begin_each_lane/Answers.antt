@@ -1,6 +1,5 @@
-use Rattle.std.proofs.Common.{◌≡◌, ◌∙◌, ◌+◌, List, ap, drop, sym}
+use Rattle.std.proofs.Common.{◌∙◌, ◌+◌, List, ap, drop, sym}
 use Rattle.std.specs.Vec.Iter.{into_iter_items}
-use Rattle.lms_sig.specs.Keys.{Key}
 use Rattle.ds_plan.specs.declared.host.LaneSpec.{LaneSpec}
 use Rattle.ds_setup.specs.Lists.{each}
 use Rattle.ds_exporter.specs.HostStates.{lane_of}
