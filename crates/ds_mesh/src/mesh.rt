@@ -3,18 +3,20 @@
 
 ghost use Rattle.std.specs.Prelude.{◌≡◌, ◌++◌, None, OnOk, IfOk, flat_map, map, decimal, length};
 ghost use Rattle.ds_plan.specs.Documents.{IsDocument};
+ghost use Rattle.ds_plan.specs.Keys.{identity_key};
 ghost use Rattle.ds_report.specs.Events.{event_line};
 ghost use Rattle.ds_sim.specs.Sims.{text_now};
 ghost use Rattle.ds_mesh.specs.Meshes.{IsMeshTextOf, event_lines};
 
 use crate::running::run_in_threads;
 use ds_base::Gate;
-use ds_boot::make_keys_in_threads;
+use ds_boot::make_lane_keys_in_threads;
 use ds_plan::{Doc, Event};
 use ds_report::{push_event, text};
 use ds_sim::setup_with;
 use ds_world::World;
 use itoa::Buffer;
+use lms_sig::TreeKey;
 use std::alloc::{AllocError, Global};
 use std::thread::Threads;
 
@@ -63,8 +65,9 @@ fn print_run(alloc: Global, world: &World, events: &[Event]) -> Result<Vec<u8>, 
     Ok(out)
 }
 
-/// The text of a run in threads of a document that was read: `mesh N`, the N events that the hosts made, each on a line, and the text
-/// of the run by these events. All keys are made at once, each in a thread of its own where one can be made. In a phase all hosts run at once, each in a thread of its own where one can be made; the events are
+/// The text of a run in threads of a document that was read, with the identity key of each host, none of a silent one: `mesh N`, the
+/// N events that the hosts made, each on a line, and the text of the run by these events. First the keys of all lanes are made at
+/// once, each in a thread of its own where one can be made. In a phase all hosts run at once, each in a thread; the events are
 /// listed phase by phase, and in a phase host by host. Events that the document lists aren't read. A gate is passed before a message
 /// is put into a mailbox. `AllocError` where memory runs out.
 pub fn mesh_text<R: Threads + Sync, G: Gate + Sync>(
@@ -72,12 +75,14 @@ pub fn mesh_text<R: Threads + Sync, G: Gate + Sync>(
     gate: &G,
     alloc: Global,
     doc: Doc,
+    identities: Vec<Option<TreeKey>>,
 ) -> Result<Vec<u8>, AllocError>
     requires document { IsDocument doc }
+    requires identities { identities.items ≡ map identity_key doc.hosts }
     ensures { IfOk result (λ text. IsMeshTextOf doc text.items) }
 {
     let budget = doc.budget;
-    let keys = make_keys_in_threads(rt, alloc, &doc)?;
+    let keys = make_lane_keys_in_threads(rt, alloc, &doc, identities)?;
     let world = setup_with(alloc, doc, keys)?;
     world.hands();
     let ran = run_in_threads(rt, gate, world, budget)?;

@@ -24,8 +24,8 @@ fn run<T: Threads + Sync, G: Gate + Sync>(
     alloc: Global,
     bytes: &[u8],
 ) -> Result<Vec<u8>, DocFault> {
-    let doc = read_without_events(alloc, bytes)?;
-    let text = mesh_text(rt, gate, alloc, doc)?;
+    let (doc, identities) = read_without_events(rt, alloc, bytes)?;
+    let text = mesh_text(rt, gate, alloc, doc, identities)?;
     Ok(text)
 }
 

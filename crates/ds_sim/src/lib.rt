@@ -9,4 +9,4 @@ mod simulate;
 pub use beginning::{setup, setup_with};
 pub use laws::{runs_begin_so, runs_look_the_same};
 pub use routing::routes;
-pub use simulate::run_text;
+pub use simulate::{run_text, run_text_with};

@@ -2,10 +2,12 @@
 #![tactic(auto)]
 
 ghost use Rattle.std.specs.Prelude.{◌≡◌, ◌≤◌, ℕ, List, Option, IfOk, OnOk, length};
+ghost use Rattle.ds_boot.specs.AllKeys.{AreKeysOf};
 ghost use Rattle.ds_plan.specs.Documents.{IsDocument, events_of};
 ghost use Rattle.ds_sim.specs.Sims.{Happened, IsTextOf, text_now, without_events};
 
-use crate::beginning::setup;
+use crate::beginning::setup_with;
+use ds_boot::{DocKeys, make_keys};
 use ds_plan::{Doc, EventList};
 use ds_report::text;
 use ds_world::World;
@@ -66,9 +68,20 @@ pub fn run_text(alloc: Global, doc: Doc) -> Result<Vec<u8>, AllocError>
     requires { IsDocument doc }
     ensures { IfOk result (λ text. IsTextOf doc text.items) }
 {
+    let keys = make_keys(alloc, &doc)?;
+    run_text_with(alloc, doc, keys)
+}
+
+/// The text of the run of a document that was read, with the keys that its hosts and lanes sign with: by the events that it gives, or
+/// else by those of the canonical schedule. `AllocError` where memory runs out.
+pub fn run_text_with(alloc: Global, doc: Doc, keys: DocKeys) -> Result<Vec<u8>, AllocError>
+    requires document { IsDocument doc }
+    requires keys { AreKeysOf doc keys }
+    ensures { IfOk result (λ text. IsTextOf doc text.items) }
+{
     let budget = doc.budget;
     let (begins, events) = apart(doc);
-    let mut world = setup(alloc, begins)?;
+    let mut world = setup_with(alloc, begins, keys)?;
     happen(&mut world, &events, budget)?;
     text_of(alloc, &world)
 }

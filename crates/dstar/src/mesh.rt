@@ -34,14 +34,15 @@ fn meshed<T: Threads + Sync, G: Gate + Sync>(
     ensures ok { IfOk result (λ text. IsMeshOf bytes.now text.items) }
     ensures err { IfErr result (IsRefusedForMeshBy bytes.now) }
 {
-    let doc = read_without_events(alloc, bytes)?;
-    let text = mesh_text(rt, gate, alloc, doc)?;
+    let (doc, identities) = read_without_events(rt, alloc, bytes)?;
+    let text = mesh_text(rt, gate, alloc, doc, identities)?;
     Ok(text)
 }
 
-/// Answers the call `mesh`: reads a document that lists no events, lets all its hosts run at once, each in a thread of its own where
-/// one can be made, and writes `mesh N`, the N events that they made, a line each, and the text of the run by these events. The words exclude the program's name. The input is read to its end, of which at
-/// most 16,777,217 bytes. Workers pass `gate` before they put a message into a mailbox.
+/// Answers the call `mesh`: reads a document that lists no events, makes all its keys and then lets all its hosts run at once, each in
+/// a thread of its own where one can be made, and writes `mesh N`, the N events that they made, a line each, and the text of the run
+/// by these events. The words exclude the program's name. The input is read to its end, of which at most 16,777,217 bytes. Workers
+/// pass `gate` before they put a message into a mailbox.
 ///
 /// The status is `Usage` where the words aren't the word `mesh`, and nothing is touched then; `ReadFault`, `WriteFault` where the
 /// input or the output failed; `TooLong` where more than 16,777,216 bytes were read; `Document` with the least code that the
