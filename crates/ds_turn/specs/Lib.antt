@@ -1,0 +1,4 @@
+pub mod Records
+pub mod LaneRecords
+pub mod LaneInside
+pub mod LaneTurns

@@ -1,0 +1,25 @@
+-- Names of shared objects, and events as actors record them.
+use Rattle.std.specs.Prelude.{ℕ, List, [], Some}
+use Rattle.ds_script.specs.declared.actor.Actor.{Actor}
+use Rattle.ds_turn.specs.declared.record.ObjectName.{ObjectName}
+use Rattle.ds_turn.specs.declared.record.Kept.{Kept}
+use Rattle.ds_turn.specs.declared.record.Recorded.{Recorded}
+
+-- a host's desk
+abbrev pub desk_name : (host : ℕ) → ObjectName
+desk_name host = record { host = host; kind = 1; id = 0 }
+
+-- the lane whose worker this is
+abbrev pub lane_name : Actor → ObjectName
+lane_name who = record { host = who.host; kind = 3; id = who.index }
+
+-- an entry of this actor
+abbrev pub entry_on : ObjectName → Actor → (stamp act : ℕ) → (body : List ℕ) → Kept
+entry_on object who stamp act body = record { object = object; stamp = stamp; who = who; act = act; body = body }
+
+-- a frame event of a lane's worker, by which that entry was made and that was handed out
+abbrev pub frame_event : Kept → (given : List ℕ) → Recorded
+frame_event kept given = record { who = kept.who; stamp = kept.stamp; act = 2; body = []; touched = Some kept; given = given }
+
+abbrev pub stamp_of : Recorded → ℕ
+stamp_of event = event.stamp

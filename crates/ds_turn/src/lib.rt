@@ -1,0 +1,11 @@
+//! Turns of a host's actors on threads. A turn asks by what its actor is, makes at most one call of a shared object, and tells the
+//! actor the answer. Where it made an event, the actor records it with the entry that it met and with what was handed out.
+#![tactic(auto)]
+
+mod lane;
+mod lane_record;
+mod record;
+
+pub use lane::lane_turn;
+pub use lane_record::RecordedLane;
+pub use record::{Kept, ObjectName, Recorded};
