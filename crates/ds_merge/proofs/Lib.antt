@@ -1,0 +1,5 @@
+pub mod Derived
+pub mod Ordered
+pub mod OnlyList
+pub mod Spots
+pub mod Standings
