@@ -3,3 +3,6 @@ pub mod Ordered
 pub mod OnlyList
 pub mod Spots
 pub mod Standings
+pub mod Walks
+pub mod Lookups
+pub mod Runs

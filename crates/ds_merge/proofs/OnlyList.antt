@@ -21,14 +21,11 @@ places_rank key = ranks_by key_total key
 
 ahead_put : (x e : Recorded) (xs : List Recorded) → is_before e x ≡ false → Ahead is_before x xs → Ahead is_before x (put_in e xs)
 ahead_put x e [] h a = (h, tt)
-ahead_put x e (y ∷ ys) h a = by (is_before y e)
+ahead_put x e (y ∷ ys) h a = by (is_before y e) (ahead_put x e ys h a.1)
   where
-    rest : Ahead is_before x (put_in e ys)
-    rest = ahead_put x e ys h a.1
-
-    by : (b : Bool) → Ahead is_before x (cond b (y ∷ put_in e ys) (e ∷ y ∷ ys))
-    by true = (a.0, rest)
-    by false = (h, a)
+    by : (b : Bool) → Ahead is_before x (put_in e ys) → Ahead is_before x (cond b (y ∷ put_in e ys) (e ∷ y ∷ ys))
+    by true rest = (a.0, rest)
+    by false rest = (h, a)
 
 ahead_all : (x e : Recorded) (ys : List Recorded) → is_before x e ≡ false → Ahead is_before x ys → Ahead is_before e ys
 ahead_all x e [] h a = tt
@@ -36,14 +33,11 @@ ahead_all x e (y ∷ ys) h a = (before_ranks.chain y x e a.0 h, ahead_all x e ys
 
 ascends_put : (e : Recorded) (xs : List Recorded) → Ascends is_before xs → Ascends is_before (put_in e xs)
 ascends_put e [] a = (tt, tt)
-ascends_put e (x ∷ xs) a = by (is_before x e) refl
+ascends_put e (x ∷ xs) a = by (is_before x e) refl (ascends_put e xs a.1)
   where
-    rest : Ascends is_before (put_in e xs)
-    rest = ascends_put e xs a.1
-
-    by : (b : Bool) → is_before x e ≡ b → Ascends is_before (cond b (x ∷ put_in e xs) (e ∷ x ∷ xs))
-    by true h = (ahead_put x e xs (before_ranks.one_way x e h) a.0, rest)
-    by false h = ((h, ahead_all x e xs h a.0), a)
+    by : (b : Bool) → is_before x e ≡ b → Ascends is_before (put_in e xs) → Ascends is_before (cond b (x ∷ put_in e xs) (e ∷ x ∷ xs))
+    by true h rest = (ahead_put x e xs (before_ranks.one_way x e h) a.0, rest)
+    by false h rest = ((h, ahead_all x e xs h a.0), a)
 
 pub ascends : (es : List Recorded) → Ascends is_before (in_order es)
 unfolding in_order
@@ -60,17 +54,15 @@ swapped false false x e rest apart = refl
 
 stable_put : (z e : Recorded) (xs : List Recorded) → filter (ties is_before z) (put_in e xs) ≡ filter (ties is_before z) (e ∷ xs)
 stable_put z e [] = refl
-stable_put z e (x ∷ xs) = by (is_before x e) refl
+stable_put z e (x ∷ xs) = by (is_before x e) refl (stable_put z e xs)
   where
-    rest : filter (ties is_before z) (put_in e xs) ≡ filter (ties is_before z) (e ∷ xs)
-    rest = stable_put z e xs
-
     apart : is_before x e ≡ true → ties is_before z x ≡ true → ties is_before z e ≡ true → ⊥
     apart h s t = clash (before_ranks.chain x z e (neither_by (is_before z x) (is_before x z) s).1 (neither_by (is_before z e) (is_before e z) t).0) h
 
-    by : (b : Bool) → is_before x e ≡ b → filter (ties is_before z) (cond b (x ∷ put_in e xs) (e ∷ x ∷ xs)) ≡ filter (ties is_before z) (e ∷ x ∷ xs)
-    by true h = (λ i. cond (ties is_before z x) (x ∷ rest i) (rest i)) ∙ swapped (ties is_before z x) (ties is_before z e) x e (filter (ties is_before z) xs) (apart h)
-    by false h = refl
+    by : (b : Bool) → is_before x e ≡ b → filter (ties is_before z) (put_in e xs) ≡ filter (ties is_before z) (e ∷ xs)
+        → filter (ties is_before z) (cond b (x ∷ put_in e xs) (e ∷ x ∷ xs)) ≡ filter (ties is_before z) (e ∷ x ∷ xs)
+    by true h rest = (λ i. cond (ties is_before z x) (x ∷ rest i) (rest i)) ∙ swapped (ties is_before z x) (ties is_before z e) x e (filter (ties is_before z) xs) (apart h)
+    by false h rest = refl
 
 pub stable : (z : Recorded) (es : List Recorded) → filter (ties is_before z) (in_order es) ≡ filter (ties is_before z) es
 unfolding in_order
@@ -81,14 +73,11 @@ stable z (e ∷ es) = stable_put z e (in_order es) ∙ (λ i. cond (ties is_befo
 
 all_put : (e : Recorded) (xs : List Recorded) → IsPermutation (e ∷ xs) (put_in e xs)
 all_put e [] = IsPermutation-refl (e ∷ [])
-all_put e (x ∷ xs) = by (is_before x e)
+all_put e (x ∷ xs) = by (is_before x e) (all_put e xs)
   where
-    rest : IsPermutation (e ∷ xs) (put_in e xs)
-    rest = all_put e xs
-
-    by : (b : Bool) → IsPermutation (e ∷ x ∷ xs) (cond b (x ∷ put_in e xs) (e ∷ x ∷ xs))
-    by true = IsPermutation-trans (e ∷ x ∷ xs) (x ∷ e ∷ xs) (x ∷ put_in e xs) (IsPermutation-sym (x ∷ e ∷ xs) (e ∷ x ∷ xs) (IsPermutation-middle (x ∷ []) e xs)) (IsPermutation-cons x (e ∷ xs) (put_in e xs) rest)
-    by false = IsPermutation-refl (e ∷ x ∷ xs)
+    by : (b : Bool) → IsPermutation (e ∷ xs) (put_in e xs) → IsPermutation (e ∷ x ∷ xs) (cond b (x ∷ put_in e xs) (e ∷ x ∷ xs))
+    by true rest = IsPermutation-trans (e ∷ x ∷ xs) (x ∷ e ∷ xs) (x ∷ put_in e xs) (IsPermutation-sym (x ∷ e ∷ xs) (e ∷ x ∷ xs) (IsPermutation-middle (x ∷ []) e xs)) (IsPermutation-cons x (e ∷ xs) (put_in e xs) rest)
+    by false rest = IsPermutation-refl (e ∷ x ∷ xs)
 
 all_of : (es : List Recorded) → IsPermutation es (in_order es)
 unfolding in_order

@@ -111,9 +111,9 @@ module _ {X : Type 0} (lt : X → X → Bool) (o : IsStrictWeakOrder lt) where
       let none : filter (ties lt x) (y ∷ ys) ≡ [] = (λ i. cond (no i) (y ∷ filter (ties lt x) ys) (filter (ties lt x) ys)) ∙ none_tie x y ys under a in
       not_nil x (filter (ties lt x) xs) (sym (kept_head x xs) ∙ e ∙ none)
 
-  rest_same : (b : Bool) (x y : X) (as bs : List X) → cond b (x ∷ as) as ≡ cond b (y ∷ bs) bs → as ≡ bs
-  rest_same true x y as bs e = same_tail x y as bs e
-  rest_same false x y as bs e = e
+  rest_same : (b : Bool) (x y : X) (us vs : List X) → cond b (x ∷ us) us ≡ cond b (y ∷ vs) vs → us ≡ vs
+  rest_same true x y us vs e = same_tail x y us vs e
+  rest_same false x y us vs e = e
 
   pub one_list : (xs ys : List X) → Ascends lt xs → Ascends lt ys → ((x : X) → filter (ties lt x) xs ≡ filter (ties lt x) ys) → xs ≡ ys
   one_list [] [] a b same = refl

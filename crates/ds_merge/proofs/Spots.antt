@@ -1,9 +1,11 @@
 -- Places of events in the records: as they are pushed, and as they are sorted.
-use Rattle.std.proofs.Common.{◌≡◌, ℕ, ◌<◌, ◌+◌, List, [], ◌∷◌, ◌++◌, length, take, map, Bool, true, false, ◌&&◌, not, cond, Option, Some, None, refl, sym, ap, ◌∙◌, subst, arith, slice_index_or, filter, All}
+use Rattle.std.proofs.Common.{◌≡◌, ℕ, ◌<◌, ◌+◌, List, [], ◌∷◌, ◌++◌, length, take, map, Bool, true, false, ◌&&◌, not, cond, append-nil, Option, Some, None, refl, sym, ap, ◌∙◌, subst, arith, slice_index_or, filter, All}
 use Rattle.std.specs.Prelude.{slice_get, flat_map, unwrap_or}
 use Rattle.std.specs.Ordering.{is_lt}
 use Rattle.std.specs.List.Sorted.{IsPermutation, IsSortedByKey, IsStableByKey, ties}
-use Rattle.std.proofs.lemmas.List.{append_assoc, map-append}
+use Rattle.std.proofs.lemmas.List.{append_assoc, map-append, take_more}
+use Rattle.std.proofs.lemmas.Grind.{flat_map-append}
+use Rattle.std.proofs.lemmas.Option.{slice_get-get_or, get_or_from_slice_get, slice_get_within}
 use Rattle.std.proofs.lemmas.List.Elements.{All-push, All-head, All-tail}
 use Rattle.std.proofs.lemmas.List.Sorted.{sorted_far, All-permutation}
 use Rattle.ds_script.specs.Replay.{onward}
@@ -47,6 +49,25 @@ pub push_all : (records : List ActorRecord) (n at : ℕ) (r : ActorRecord) (even
 push_all records n at r events e places found is there all =
     All-push (IsPlace records) places (record { key = key_of e; record_place = n; at = at }) all (is_place records n at r e found (ap (λ xs. slice_get xs at) (sym is) ∙ there))
 
+-- ---- one record after another
+
+pub found_at : {X : Type 0} (xs : List X) (n : ℕ) → n < length xs → (x : X) × (slice_get xs n ≡ Some x)
+found_at [] n below = absurd (omega (arith, below))
+found_at (x ∷ xs) n below = (slice_index_or (x ∷ xs) n x, slice_get-get_or (x ∷ xs) n x below)
+
+pub events_more : (records : List ActorRecord) (n : ℕ) (r : ActorRecord) → slice_get records n ≡ Some r → all_events (take (n + 1) records) ≡ all_events (take n records) ++ r.events.items
+events_more records n r found =
+    ap all_events (take_more records n r (slice_get_within records n r found) ∙ ap (λ x. take n records ++ x ∷ []) (get_or_from_slice_get records n r r found))
+    ∙ flat_map-append (λ x. x.events.items) (take n records) (r ∷ [])
+    ∙ ap (λ xs. all_events (take n records) ++ xs) (append-nil r.events.items)
+
+pub one_record_more : (records : List ActorRecord) (n : ℕ) (old new : List EventPlace) → n < length records
+    → ((r : ActorRecord) → slice_get records n ≡ Some r → events_of records new ≡ events_of records old ++ r.events.items)
+    → events_of records old ≡ all_events (take n records) → events_of records new ≡ all_events (take (n + 1) records)
+one_record_more records n old new below grows so_far =
+    let r = found_at records n below in
+    grows r.0 r.1 ∙ ap (λ xs. xs ++ r.0.events.items) so_far ∙ sym (events_more records n r.0 r.1)
+
 -- ---- in order
 
 module _ (records : List ActorRecord) where
@@ -66,20 +87,18 @@ module _ (records : List ActorRecord) where
   tied_events : (e : Recorded) (x : EventPlace) (qs : List EventPlace) → x.key ≡ key_of e → All (IsPlace records) qs
       → filter (ties is_before e) (events_of records qs) ≡ map (event_of records) (filter (ties (λ (a b : EventPlace). is_lt (key_cmp a.key b.key)) x) qs)
   tied_events e x [] is all = refl
-  tied_events e x (q ∷ qs) is all = heads ∙ by (ties (λ (a b : EventPlace). is_lt (key_cmp a.key b.key)) x q)
+  tied_events e x (q ∷ qs) is all =
+      heads (tied_events e x qs is (All-tail (IsPlace records) q qs all)) ∙ by (ties (λ (a b : EventPlace). is_lt (key_cmp a.key b.key)) x q)
     where
-      rest : filter (ties is_before e) (events_of records qs) ≡ map (event_of records) (filter (ties (λ (a b : EventPlace). is_lt (key_cmp a.key b.key)) x) qs)
-      rest = tied_events e x qs is (All-tail (IsPlace records) q qs all)
-
       key : q.key ≡ key_of (event_of records q)
       key = (All-head (IsPlace records) q qs all).key
 
       same : ties is_before e (event_of records q) ≡ ties (λ (a b : EventPlace). is_lt (key_cmp a.key b.key)) x q
       same = λ i. not (is_lt (key_cmp (sym is i) (sym key i))) && not (is_lt (key_cmp (sym key i) (sym is i)))
 
-      heads : filter (ties is_before e) (events_of records (q ∷ qs))
+      heads : filter (ties is_before e) (events_of records qs) ≡ map (event_of records) (filter (ties (λ (a b : EventPlace). is_lt (key_cmp a.key b.key)) x) qs) → filter (ties is_before e) (events_of records (q ∷ qs))
           ≡ cond (ties (λ (a b : EventPlace). is_lt (key_cmp a.key b.key)) x q) (event_of records q ∷ map (event_of records) (filter (ties (λ (a b : EventPlace). is_lt (key_cmp a.key b.key)) x) qs)) (map (event_of records) (filter (ties (λ (a b : EventPlace). is_lt (key_cmp a.key b.key)) x) qs))
-      heads = λ i. cond (same i) (event_of records q ∷ rest i) (rest i)
+      heads rest = λ i. cond (same i) (event_of records q ∷ rest i) (rest i)
 
       by : (b : Bool)
           → cond b (event_of records q ∷ map (event_of records) (filter (ties (λ (a b : EventPlace). is_lt (key_cmp a.key b.key)) x) qs)) (map (event_of records) (filter (ties (λ (a b : EventPlace). is_lt (key_cmp a.key b.key)) x) qs))

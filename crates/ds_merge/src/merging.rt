@@ -1,6 +1,6 @@
 //! Merging.
 
-ghost use Rattle.std.specs.Prelude.{◌≡◌, All, IfOk, IfErr, OnOk, unwrap_or};
+ghost use Rattle.std.specs.Prelude.{◌≡◌, All, IfOk, IfErr, OnOk, option_copied, unwrap_or};
 ghost use Rattle.ds_merge.specs.declared.kept.Kept.{Kept as KeptValue};
 ghost use Rattle.ds_merge.specs.declared.recorded.Recorded.{Recorded as RecordedValue};
 ghost use Rattle.ds_merge.specs.declared.merging.MergeFault.TheVariants.{NoMemory as OutOfMemory};
@@ -86,13 +86,11 @@ fn judge<M: Machine>(
     let mut tables = Tables::new(alloc);
     let stop = walk(machine, histories, records, places, &index, &mut tables)?;
     match stop {
-        Some(at) => Err(strange_at(
-            alloc,
-            histories,
-            &index,
-            &tables,
-            event_at(records, &places[at]),
-        )),
+        Some(at) => {
+            let place = &places[at];
+            let event = event_at(records, place);
+            Err(strange_at(alloc, histories, &index, &tables, event))
+        }
         None => match first_left(histories, &tables) {
             None => Ok(()),
             Some(kept) => Err(strange_past(alloc, kept)),
@@ -111,13 +109,25 @@ fn strange_at(
     requires { Finds index.now.places histories.now histories.now }
     ensures { IsPair (unwrap_or (waiting histories.now (seen tables.now) event.now) no_entry) event.now result }
 {
-    let next = match &event.touched {
-        None => None,
-        Some(kept) => index.next(histories, tables, kept.object),
-    };
-    match next {
+    match next_for(histories, index, tables, event) {
         None => pair_or_fault(Ok(no_entry_of(alloc)), event.copy()),
         Some(kept) => pair_or_fault(kept.copy(), event.copy()),
+    }
+}
+
+/// The entry that comes next of the object that the event touched.
+fn next_for<'a>(
+    histories: &'a [History],
+    index: &HistoryIndex,
+    tables: &Tables,
+    event: &Recorded,
+) -> Option<&'a Kept>
+    requires { Finds index.now.places histories.now histories.now }
+    ensures { option_copied result ≡ waiting histories.now (seen tables.now) event.now }
+{
+    match &event.touched {
+        None => None,
+        Some(kept) => index.next(histories, tables, kept.object),
     }
 }
 

@@ -63,9 +63,11 @@ fn sort_places(places: &mut Vec<EventPlace>) -> Result<(), AllocError>
     ensures stable { OnOk result (IsStableByKey (λ (p : Place). p.key) key_cmp places.old.items places.new.items) }
     ensures all { OnOk result (IsPermutation places.old.items places.new.items) }
 {
-    places.sort_by_key(|place: &EventPlace| -> EventKey
-        ensures { result ≡ place.now.key }
-    { place.key })
+    let sorted = places.sort_by_key(|place| place.key);
+    match sorted {
+        Ok(()) => Ok(()),
+        Err(fault) => Err(fault),
+    }
 }
 
 /// The places of all events, one record after another.

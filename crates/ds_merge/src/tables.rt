@@ -1,7 +1,9 @@
 //! Last stamps of actors and objects, and how many entries of each object are taken.
 
-ghost use Rattle.std.specs.Prelude.{◌≡◌, ◌<◌, ◌^◌, ◌-◌, OnOk};
+ghost use Rattle.std.specs.Prelude.{◌≡◌, ◌<◌, ◌^◌, ◌-◌, ◌+◌, OnOk, if◌then◌else◌};
+ghost use Rattle.ds_script.specs.declared.actor.Actor.{Actor as Who};
 ghost use Rattle.ds_merge.specs.declared.kept.ObjectName.{ObjectName as Name};
+ghost use Rattle.ds_merge.specs.Standing.{same_name};
 ghost use Rattle.ds_merge.specs.Tables.{seen, at_start, one_more};
 
 use crate::kept::ObjectName;
@@ -58,11 +60,27 @@ impl Tables {
         ensures { OnOk result (seen self.new ≡ one_more event.now (seen self.old)) }
     {
         self.actors.insert(event.who, event.stamp)?;
-        if let Some(kept) = &event.touched {
-            let count = self.counts.get(&kept.object).copied().unwrap_or(0);
-            self.objects.insert(kept.object, event.stamp)?;
-            self.counts.insert(kept.object, count + 1)?;
+        match &event.touched {
+            None => Ok(()),
+            Some(kept) => {
+                self.take_entry(kept.object, event.stamp)?;
+                Ok(())
+            }
         }
+    }
+
+    /// Takes one entry more of the object. `AllocError` where memory runs out.
+    fn take_entry(&mut self, name: ObjectName, stamp: u64) -> Result<(), AllocError>
+        requires { (seen self.old).taken name < 2 ^ 64 - 1 }
+        ensures actors { OnOk result ((who : Who) → (seen self.new).actor_last who ≡ (seen self.old).actor_last who) }
+        ensures objects { OnOk result ((other : Name) →
+            (seen self.new).object_last other ≡ (if same_name name other then stamp else (seen self.old).object_last other)) }
+        ensures counts { OnOk result ((other : Name) →
+            (seen self.new).taken other ≡ (if same_name name other then (seen self.old).taken other + 1 else (seen self.old).taken other)) }
+    {
+        let count = self.taken(name);
+        self.objects.insert(name, stamp)?;
+        self.counts.insert(name, count + 1)?;
         Ok(())
     }
 }

@@ -90,7 +90,8 @@ pub(crate) fn walk<M: Machine>(
         machine.old histories.now (events_of records.now places.now) stop machine.new (seen tables.new)) }
 {
     for at in 0..places.len() {
-        let event = event_at(records, &places[at]);
+        let place = &places[at];
+        let event = event_at(records, place);
         if !goes_past(machine, histories, index, tables, event)? {
             return Ok(Some(at));
         }
