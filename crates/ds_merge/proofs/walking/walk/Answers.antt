@@ -33,5 +33,5 @@ loop-at-preserved g c =
         c.event_at-event.result.now below is inv.0 passes.1,
       goes_more g.M.Machine.after g.M.Machine.moves g.M.Machine.entry g.M.Machine.answer c.args.machine.now c.loop-at.machine c.args.histories.now es c.loop-at.at
         c.event_at-event.result.now (seen c.loop-at.tables) is inv.0 inv.2 inv.1 passes.0,
-      stands_more es c.loop-at.at c.event_at-event.result.now (seen c.loop-at.tables) (seen c.take.new.self) below is inv.2 c.in_ok-take.ensures,
+      stands_more g.M.Machine.after g.M.Machine.moves g.M.Machine.entry g.M.Machine.answer es c.loop-at.at c.event_at-event.result.now (seen c.loop-at.tables) (seen c.take.new.self) below is inv.2 c.in_ok-take.ensures,
     )
