@@ -1,5 +1,5 @@
 -- Tables after one number more, and the index of the histories.
-use Rattle.std.proofs.Common.{◌≡◌, ℕ, ◌<◌, ◌+◌, ◌-◌, List, [], ◌∷◌, length, drop, Bool, true, false, cond, Option, Some, None, refl, sym, ap, ◌∙◌, arith, slice_index_or}
+use Rattle.std.proofs.Common.{◌≡◌, ℕ, ◌<◌, ◌+◌, ◌-◌, List, ◌∷◌, length, drop, Bool, true, false, cond, Option, Some, refl, sym, ap, ◌∙◌, arith, slice_index_or}
 use Rattle.std.specs.Prelude.{slice_get, find, unwrap_or}
 use Rattle.std.specs.Ordering.{is_eq}
 use Rattle.std.specs.BTreeMap.{BTreeMap, get}
@@ -52,11 +52,13 @@ finds_more : (old new : BTreeMap ObjectName ℕ) (hs rest more : List History) (
     → ((q : ObjectName) → get name_cmp new q ≡ cond (is_eq (name_cmp h.object q)) (Some n) (get name_cmp old q))
     → Finds old hs rest → Finds new hs more
 finds_more old new hs rest more n h here is updates f =
-    record { each = λ name.
-        ap (λ o. onward o (slice_get hs)) (updates name)
-        ∙ (λ i. onward (cond (name_ties h.object name i) (Some n) (get name_cmp old name)) (slice_get hs))
-        ∙ by name (same_name h.object name)
-        ∙ sym (ap (find (λ x. same_name x.object name)) is) }
+    record {
+      each = λ name.
+          ap (λ o. onward o (slice_get hs)) (updates name)
+          ∙ (λ i. onward (cond (name_ties h.object name i) (Some n) (get name_cmp old name)) (slice_get hs))
+          ∙ by name (same_name h.object name)
+          ∙ sym (ap (find (λ x. same_name x.object name)) is);
+    }
   where
     by : (name : ObjectName) (b : Bool) → onward (cond b (Some n) (get name_cmp old name)) (slice_get hs) ≡ cond b (Some h) (find (λ x. same_name x.object name) rest)
     by name true = here
@@ -70,5 +72,5 @@ finds_step old new hs b h under is updates f =
     let last : length hs - (b + 1) ≡ length hs - 1 - b = omega (arith, under) in
     let next : length hs - 1 - b + 1 ≡ length hs - b = omega (arith, under) in
     finds_more old new hs (drop (length hs - b) hs) (drop (length hs - (b + 1)) hs) (length hs - 1 - b) h (slice_get_read hs (length hs) (length hs - 1 - b) h refl below is)
-      (ap (λ n. drop n hs) last ∙ drop_more hs (length hs - 1 - b) h below ∙ (λ i. sym is i ∷ drop (next i) hs))
-      updates f
+    (ap (λ n. drop n hs) last ∙ drop_more hs (length hs - 1 - b) h below ∙ (λ i. sym is i ∷ drop (next i) hs))
+    updates f

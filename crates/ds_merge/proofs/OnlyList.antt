@@ -1,8 +1,8 @@
 -- The merged list is in order, has all events, and is the only such list.
-use Rattle.std.proofs.Common.{◌≡◌, ℕ, List, [], ◌∷◌, ◌++◌, Bool, true, false, ◌&&◌, not, cond, refl, sym, ap, ◌∙◌, filter}
+use Rattle.std.proofs.Common.{◌≡◌, List, [], ◌∷◌, Bool, true, false, cond, refl, sym, ◌∙◌, filter}
 use Rattle.std.specs.Ordering.{is_lt}
 use Rattle.std.specs.Cmp.{IsStrictWeakOrder}
-use Rattle.std.specs.List.Sorted.{IsPermutation, IsSortedBy, ties}
+use Rattle.std.specs.List.Sorted.{IsPermutation, ties}
 use Rattle.std.proofs.lemmas.List.Sorted.{ranks_by, sorted_far, IsPermutation-refl, IsPermutation-cons, IsPermutation-trans, IsPermutation-sym, IsPermutation-middle}
 use Rattle.ds_merge.specs.declared.recorded.Recorded.{Recorded}
 use Rattle.ds_merge.specs.declared.records.ActorRecord.{ActorRecord}

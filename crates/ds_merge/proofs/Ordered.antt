@@ -1,8 +1,7 @@
 -- Of lists with the same elements at each tie, sorted by one order, there is one.
 use Rattle.std.proofs.Common.{◌≡◌, ◌⊎◌, inl, inr, ℕ, zero, suc, ◌<◌, ◌≤◌, ◌+◌, List, [], ◌∷◌, length, Bool, true, false, ◌&&◌, not, cond, refl, sym, ap, ◌∙◌, arith, slice_index_or, filter}
-use Rattle.std.specs.List.Sorted.{IsPermutation, IsSortedBy, ties}
+use Rattle.std.specs.List.Sorted.{IsSortedBy, ties}
 use Rattle.std.specs.Cmp.{IsStrictWeakOrder}
-use Rattle.std.proofs.lemmas.List.Sorted.{sorted_far, IsPermutation-refl, IsPermutation-cons, IsPermutation-trans}
 
 -- no element is less than one ahead of it
 abbrev pub Ahead : {X : Type 0} → (X → X → Bool) → X → List X → Type 0

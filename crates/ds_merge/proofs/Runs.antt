@@ -1,18 +1,18 @@
 -- A list of events whose parts are runs is a run.
-use Rattle.std.proofs.Common.{◌≡◌, ◌⊎◌, inl, inr, ℕ, zero, suc, ◌<◌, ◌≤◌, ◌+◌, List, [], ◌∷◌, ◌++◌, append-nil, length, take, Bool, true, false, cond, Option, Some, None, refl, sym, ap, ◌∙◌, arith, filter}
+use Rattle.std.proofs.Common.{◌≡◌, ℕ, zero, suc, ◌<◌, ◌≤◌, ◌+◌, List, [], ◌∷◌, ◌++◌, append-nil, length, take, Bool, true, false, cond, Option, Some, None, refl, sym, ap, ◌∙◌, arith}
 use Rattle.std.specs.Prelude.{slice_get, find, MatchOption}
 use Rattle.std.specs.Option.{option_or}
 use Rattle.std.proofs.lemmas.List.{take_all, take_more, append_assoc}
-use Rattle.std.proofs.lemmas.Option.{slice_get-get_or, get_or_from_slice_get, slice_get_within}
+use Rattle.std.proofs.lemmas.Option.{get_or_from_slice_get, slice_get_within}
 use Rattle.ds_script.specs.Replay.{onward, replay}
 use Rattle.ds_script.proofs.Replays.{replay-append}
 use Rattle.ds_merge.specs.declared.kept.ObjectName.{ObjectName}
 use Rattle.ds_merge.specs.declared.kept.Kept.{Kept}
 use Rattle.ds_merge.specs.declared.recorded.Recorded.{Recorded}
 use Rattle.ds_merge.specs.declared.records.History.{History}
-use Rattle.ds_merge.specs.Standing.{Standing, standing, on_object, same_name, touched_it, next_in, next_of}
+use Rattle.ds_merge.specs.Standing.{Standing, standing, same_name, touched_it, next_in, next_of}
 use Rattle.ds_merge.specs.Walk.{no_event, event, first_left, run, Meets, Matches, GoesPast}
-use Rattle.ds_merge.specs.Parts.{entry_of, entries_of, Agrees, AllAgree}
+use Rattle.ds_merge.specs.Parts.{entry_of, entries_of, AllAgree}
 use Rattle.ds_merge.proofs.Derived.{same_name_is}
 use Rattle.ds_merge.proofs.Standings.{stands_after}
 

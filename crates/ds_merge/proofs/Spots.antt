@@ -1,13 +1,13 @@
 -- Places of events in the records: as they are pushed, and as they are sorted.
-use Rattle.std.proofs.Common.{◌≡◌, ℕ, ◌<◌, ◌+◌, List, [], ◌∷◌, ◌++◌, length, take, map, Bool, true, false, ◌&&◌, not, cond, append-nil, Option, Some, None, refl, sym, ap, ◌∙◌, subst, arith, slice_index_or, filter, All}
-use Rattle.std.specs.Prelude.{slice_get, flat_map, unwrap_or}
+use Rattle.std.proofs.Common.{◌≡◌, ℕ, ◌<◌, ◌+◌, List, [], ◌∷◌, ◌++◌, length, take, map, Bool, true, false, ◌&&◌, not, cond, append-nil, Some, refl, sym, ap, ◌∙◌, arith, slice_index_or, filter, All}
+use Rattle.std.specs.Prelude.{slice_get, unwrap_or}
 use Rattle.std.specs.Ordering.{is_lt}
-use Rattle.std.specs.List.Sorted.{IsPermutation, IsSortedByKey, IsStableByKey, ties}
+use Rattle.std.specs.List.Sorted.{IsSortedByKey, IsStableByKey, ties}
 use Rattle.std.proofs.lemmas.List.{append_assoc, map-append, take_more}
 use Rattle.std.proofs.lemmas.Grind.{flat_map-append}
 use Rattle.std.proofs.lemmas.Option.{slice_get-get_or, get_or_from_slice_get, slice_get_within}
 use Rattle.std.proofs.lemmas.List.Elements.{All-push, All-head, All-tail}
-use Rattle.std.proofs.lemmas.List.Sorted.{sorted_far, All-permutation}
+use Rattle.std.proofs.lemmas.List.Sorted.{sorted_far}
 use Rattle.ds_script.specs.Replay.{onward}
 use Rattle.ds_merge.specs.declared.recorded.Recorded.{Recorded}
 use Rattle.ds_merge.specs.declared.records.ActorRecord.{ActorRecord}
@@ -110,6 +110,6 @@ module _ (records : List ActorRecord) where
       → IsSortedByKey (λ (p : EventPlace). p.key) key_cmp qs → IsStableByKey (λ (p : EventPlace). p.key) key_cmp ps qs → events_of records qs ≡ merged records
   sorted_events ps qs all_ps all_qs list up same =
       in_order_is (events_of records qs) (all_events records)
-        (ascend_events qs all_qs (ascends_from (λ (a b : EventPlace). is_lt (key_cmp a.key b.key)) qs (sorted_far (λ (a b : EventPlace). is_lt (key_cmp a.key b.key)) (places_rank (λ (p : EventPlace). p.key)) qs up)))
-        (λ e. let x : EventPlace = record { key = key_of e; record_place = 0; at = 0 } in
-          tied_events e x qs refl all_qs ∙ ap (map (event_of records)) (same x) ∙ sym (tied_events e x ps refl all_ps) ∙ ap (filter (ties is_before e)) list)
+      (ascend_events qs all_qs (ascends_from (λ (a b : EventPlace). is_lt (key_cmp a.key b.key)) qs (sorted_far (λ (a b : EventPlace). is_lt (key_cmp a.key b.key)) (places_rank (λ (p : EventPlace). p.key)) qs up)))
+      (λ e. let x : EventPlace = record { key = key_of e; record_place = 0; at = 0 } in
+      tied_events e x qs refl all_qs ∙ ap (map (event_of records)) (same x) ∙ sym (tied_events e x ps refl all_ps) ∙ ap (filter (ties is_before e)) list)

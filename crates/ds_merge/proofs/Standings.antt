@@ -1,10 +1,9 @@
 -- What one event more makes of how far a walk has come.
-use Rattle.std.proofs.Common.{◌≡◌, ℕ, ◌+◌, List, [], ◌∷◌, ◌++◌, Bool, true, false, cond, append-nil, length-append, length, filter, refl, sym, ap, ◌∙◌, arith}
+use Rattle.std.proofs.Common.{◌≡◌, ◌+◌, List, [], ◌∷◌, ◌++◌, Bool, true, false, cond, append-nil, length-append, length, filter, refl, ap, ◌∙◌}
 use Rattle.std.proofs.lemmas.List.Elements.{filter-append}
-use Rattle.ds_script.specs.Replay.{last_of}
 use Rattle.ds_script.proofs.Replays.{last_of-push}
 use Rattle.ds_merge.specs.declared.recorded.Recorded.{Recorded}
-use Rattle.ds_merge.specs.Standing.{Standing, standing, last_stamp, by_actor, on_object, same_actor, touched_it}
+use Rattle.ds_merge.specs.Standing.{standing, last_stamp, same_actor, touched_it}
 use Rattle.ds_merge.specs.Tables.{at_start, one_more}
 
 pub starts : standing [] ≡ at_start

@@ -1,6 +1,6 @@
 -- The walk after one event more, where it stops, and what that says.
-use Rattle.std.proofs.Common.{◌≡◌, ◌⊎◌, inl, inr, ℕ, zero, suc, ◌<◌, ◌≤◌, ◌+◌, List, [], ◌∷◌, ◌++◌, length, take, map, Option, Some, None, Bool, true, false, cond, refl, sym, ap, ◌∙◌, subst, arith, slice_index_or, filter}
-use Rattle.std.specs.Prelude.{slice_get, unwrap_or}
+use Rattle.std.proofs.Common.{◌≡◌, ◌⊎◌, inl, inr, ℕ, zero, suc, ◌<◌, ◌≤◌, ◌+◌, List, [], ◌∷◌, ◌++◌, length, take, Option, Some, None, Bool, true, false, cond, refl, sym, ap, ◌∙◌, subst, arith, slice_index_or, filter}
+use Rattle.std.specs.Prelude.{unwrap_or}
 use Rattle.std.proofs.Math.ListN.{length-take}
 use Rattle.std.proofs.lemmas.List.{take_more}
 use Rattle.ds_merge.specs.declared.kept.ObjectName.{ObjectName}
@@ -12,8 +12,8 @@ use Rattle.ds_merge.specs.declared.order.EventPlace.{EventPlace}
 use Rattle.ds_merge.specs.declared.merging.MergeFault.{MergeFault}
 use Rattle.ds_merge.specs.declared.merging.MergeFault.TheVariants.{Strange, NoMemory}
 use Rattle.ds_merge.specs.Standing.{Standing, standing, on_object, touched_it}
-use Rattle.ds_merge.specs.Walk.{no_event, no_entry, event, waiting, first_left, run, Passes, PassesAt, GoesPast, Matches, StopsAt, IsStrangeAt, IsStrangePast, Faults, IsPair}
-use Rattle.ds_merge.specs.Tables.{one_more, event_of, events_of, IsPlace}
+use Rattle.ds_merge.specs.Walk.{no_event, no_entry, event, waiting, first_left, run, Passes, PassesAt, GoesPast, Matches, StopsAt, Faults, IsPair}
+use Rattle.ds_merge.specs.Tables.{one_more, event_of, events_of}
 use Rattle.ds_merge.proofs.Standings.{stands_after}
 
 -- the event at a place of a mapped list

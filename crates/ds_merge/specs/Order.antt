@@ -1,5 +1,5 @@
 -- The merged list: the recorded events of all records by stamp and actor, and in their record's order where both are equal.
-use Rattle.std.specs.Prelude.{◌≡◌, ℕ, ◌<◌, List, [], ◌∷◌, Bool, cond, All, length, map, flat_map, filter, slice_index_or}
+use Rattle.std.specs.Prelude.{◌≡◌, ℕ, List, [], ◌∷◌, Bool, cond, flat_map, filter}
 use Rattle.std.specs.declared.cmp.Ordering.{Ordering}
 use Rattle.std.specs.Ordering.{nat_cmp, ordering_then, is_lt}
 use Rattle.std.specs.List.Sorted.{IsPermutation, IsSortedBy, ties}
@@ -9,7 +9,6 @@ use Rattle.ds_script.specs.declared.actor.Actor.{Actor}
 use Rattle.ds_merge.specs.declared.recorded.Recorded.{Recorded}
 use Rattle.ds_merge.specs.declared.records.ActorRecord.{ActorRecord}
 use Rattle.ds_merge.specs.declared.order.EventKey.{EventKey}
-use Rattle.ds_merge.specs.declared.order.EventPlace.{EventPlace}
 
 -- the kinds of actors in their order
 abbrev pub kind_place : ActorKind → ℕ

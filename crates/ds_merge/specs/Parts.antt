@@ -1,5 +1,5 @@
 -- A list of events whose steps agree with the entries leads each object to the state that its entries replay to.
-use Rattle.std.specs.Prelude.{◌≡◌, ℕ, List, [], ◌∷◌, ◌++◌, Bool, cond, Option, Some, None}
+use Rattle.std.specs.Prelude.{◌≡◌, List, [], ◌∷◌, ◌++◌, cond, Option, Some, None}
 use Rattle.ds_script.specs.Replay.{replay}
 use Rattle.ds_merge.specs.declared.kept.ObjectName.{ObjectName}
 use Rattle.ds_merge.specs.declared.kept.Kept.{Kept}

@@ -1,5 +1,5 @@
 -- What the events that the walk has gone past leave: last stamps, and how many entries of each object are taken.
-use Rattle.std.specs.Prelude.{◌≡◌, ℕ, ◌+◌, ◌==◌, List, [], Bool, false, ◌&&◌, cond, length, filter, find, Option, Some, None, slice_get}
+use Rattle.std.specs.Prelude.{ℕ, ◌==◌, List, Bool, false, ◌&&◌, length, filter, find, Option, Some, None, slice_get}
 use Rattle.ds_script.specs.Replay.{onward, last_of}
 use Rattle.ds_script.specs.declared.actor.Actor.{Actor}
 use Rattle.ds_merge.specs.declared.kept.ObjectName.{ObjectName}

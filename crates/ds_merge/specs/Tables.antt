@@ -1,18 +1,17 @@
 -- Last stamps and counts in tables, and what one event more makes of them.
-use Rattle.std.specs.Prelude.{◌≡◌, ℕ, ◌+◌, ◌<◌, List, [], ◌∷◌, Bool, cond, All, length, map, Option, None, Some, unwrap_or, slice_index_or, slice_get, find, drop}
+use Rattle.std.specs.Prelude.{◌≡◌, ℕ, ◌+◌, List, cond, map, Some, unwrap_or, slice_get, find}
 use Rattle.std.specs.BTreeMap.{BTreeMap, get}
 use Rattle.std.specs.declared.cmp.Ordering.{Ordering}
 use Rattle.std.specs.Ordering.{nat_cmp, ordering_then}
 use Rattle.ds_script.specs.Replay.{onward}
 use Rattle.ds_script.specs.declared.actor.Actor.{Actor}
 use Rattle.ds_merge.specs.declared.kept.ObjectName.{ObjectName}
-use Rattle.ds_merge.specs.declared.kept.Kept.{Kept}
 use Rattle.ds_merge.specs.declared.recorded.Recorded.{Recorded}
 use Rattle.ds_merge.specs.declared.records.ActorRecord.{ActorRecord}
 use Rattle.ds_merge.specs.declared.records.History.{History}
 use Rattle.ds_merge.specs.declared.order.EventPlace.{EventPlace}
 use Rattle.ds_merge.specs.declared.tables.Tables.{Tables}
-use Rattle.ds_merge.specs.Order.{actor_cmp, key_of, all_events}
+use Rattle.ds_merge.specs.Order.{actor_cmp, key_of}
 use Rattle.ds_merge.specs.Standing.{Standing, same_actor, same_name, touched_it}
 use Rattle.ds_merge.specs.Walk.{no_event}
 

@@ -1,10 +1,9 @@
 -- The walk over the merged list.
-use Rattle.std.specs.Prelude.{◌≡◌, ◌⊎◌, ℕ, ◌<◌, List, [], ◌∷◌, Bool, true, length, take, Option, Some, None, IsSome, MatchOption, slice_index_or, unwrap_or}
+use Rattle.std.specs.Prelude.{◌≡◌, ◌⊎◌, ℕ, ◌<◌, List, [], ◌∷◌, Bool, true, length, take, Option, Some, None, MatchOption, slice_index_or, unwrap_or}
 use Rattle.std.specs.Option.{option_or}
 use Rattle.ds_script.specs.Replay.{onward}
 use Rattle.ds_script.specs.declared.actor.Actor.{Actor}
 use Rattle.ds_script.specs.declared.actor.ActorKind.TheVariants.{Clock}
-use Rattle.ds_merge.specs.declared.kept.ObjectName.{ObjectName}
 use Rattle.ds_merge.specs.declared.kept.Kept.{Kept}
 use Rattle.ds_merge.specs.declared.recorded.Recorded.{Recorded}
 use Rattle.ds_merge.specs.declared.records.History.{History}

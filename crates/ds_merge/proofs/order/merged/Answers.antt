@@ -8,8 +8,8 @@ returns-clause-list c =
     let sort = c.in_ok-sort_places.ensures in
     let made = c.in_ok-places.ensures in
     sorted_events c.args.records.now c.in_ok-places.places.items c.sort_places.new.places.items made.places
-      (All-permutation (IsPlace c.args.records.now) c.in_ok-places.places.items c.sort_places.new.places.items sort.all made.places)
-      made.list sort.sorted sort.stable
+    (All-permutation (IsPlace c.args.records.now) c.in_ok-places.places.items c.sort_places.new.places.items sort.all made.places)
+    made.list sort.sorted sort.stable
 
 pub returns-clause-places : goal.returns-clause-places
 returns-clause-places c =

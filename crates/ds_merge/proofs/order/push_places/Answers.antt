@@ -18,9 +18,9 @@ loop-at-preserved c =
     let there = slice_get_read events (length events) c.loop-at.at e refl c.loop-at-test.true c.index-events-at.is in
     let more = take_more events c.loop-at.at e c.loop-at-test.true ∙ ap (λ x. take c.loop-at.at events ++ x ∷ []) (sym c.index-events-at.is) in (
       ap (events_of records) c.in_ok-push.ensures.items
-      ∙ push_list records c.args.record_place c.loop-at.at r events e (events_of records c.args.places.now.items) c.loop-at.places.items found value there more c.loop-at.invariant.0,
+          ∙ push_list records c.args.record_place c.loop-at.at r events e (events_of records c.args.places.now.items) c.loop-at.places.items found value there more c.loop-at.invariant.0,
       subst (All (IsPlace records)) (sym c.in_ok-push.ensures.items)
-        (push_all records c.args.record_place c.loop-at.at r events e c.loop-at.places.items found value there c.loop-at.invariant.1),
+          (push_all records c.args.record_place c.loop-at.at r events e c.loop-at.places.items found value there c.loop-at.invariant.1),
     )
 
 pub returns-clause-list : goal.returns-clause-list

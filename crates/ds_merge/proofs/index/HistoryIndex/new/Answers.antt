@@ -7,4 +7,4 @@ loop-behind-preserved c =
     let hs = c.args.histories.now in
     let place = length hs - 1 - c.loop-behind.behind in
     finds_step c.loop-behind.places c.insert.new.self hs c.loop-behind.behind (slice_index_or hs place c.index-histories-place.result) c.loop-behind-test.true
-      (ap (λ d. slice_index_or hs place d) c.index-histories-place.is) c.in_ok-insert.ensures.updates.0 c.loop-behind.invariant
+    (ap (λ d. slice_index_or hs place d) c.index-histories-place.is) c.in_ok-insert.ensures.updates.0 c.loop-behind.invariant

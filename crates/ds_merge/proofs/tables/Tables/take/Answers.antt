@@ -1,8 +1,6 @@
-use Rattle.std.proofs.Common.{◌≡◌, ◌+◌, cond, sym, ap, ◌∙◌}
-use Rattle.ds_script.specs.declared.actor.Actor.{Actor}
-use Rattle.ds_merge.specs.declared.kept.ObjectName.{ObjectName}
+use Rattle.std.proofs.Common.{◌+◌, cond, sym, ◌∙◌}
 use Rattle.ds_merge.specs.Standing.{touched_it}
-use Rattle.ds_merge.specs.Tables.{at_actor, at_object}
+use Rattle.ds_merge.specs.Tables.{at_object}
 use Rattle.ds_merge.proofs.Lookups.{raised_actor}
 use Rattle.ds_merge.proofs.tables.Tables.take.Goals as goal
 
