@@ -1,5 +1,6 @@
 -- The walk over the merged list.
-use Rattle.std.specs.Prelude.{◌≡◌, ◌⊎◌, ℕ, ◌<◌, List, [], ◌∷◌, Bool, true, length, take, Option, Some, None, MatchOption, slice_index_or, unwrap_or}
+use Rattle.std.specs.Prelude.{◌≡◌, ◌⊎◌, ℕ, ◌<◌, List, [], ◌∷◌, Bool, true}
+use Rattle.std.specs.Prelude.{length, take, Option, Some, None, MatchOption, slice_index_or, unwrap_or}
 use Rattle.std.specs.Option.{option_or}
 use Rattle.ds_script.specs.Replay.{onward}
 use Rattle.ds_script.specs.declared.actor.Actor.{Actor}
@@ -52,7 +53,8 @@ abbrev pub IsPair : Kept → Recorded → MergeFault → Type 0
 IsPair x e (Strange y f) = (y ≡ x) × (f ≡ e)
 IsPair x e NoMemory = Unit {0}
 
-module _ {M : Type 0} (after : M → Recorded → M) (shifts : M → Recorded → Bool) (enters : M → Recorded → Option Kept) (gives : M → Recorded → List ℕ) where
+module _ {M : Type 0} (after : M → Recorded → M) (shifts : M → Recorded → Bool)
+    (enters : M → Recorded → Option Kept) (gives : M → Recorded → List ℕ) where
   -- the machine after these events
   abbrev pub run : M → List Recorded → M
   run w [] = w
