@@ -14,6 +14,7 @@ pub mod Tests
 pub mod Whole
 pub mod Drafts
 pub mod Answered
+pub mod Checked
 pub mod Heads
 pub mod Rooms
 pub mod Listed

@@ -10,3 +10,4 @@ pub mod Values
 pub mod Reading
 pub mod Listing
 pub mod Alike
+pub mod Checking
