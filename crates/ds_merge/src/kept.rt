@@ -6,29 +6,31 @@ use ds_script::Actor;
 use ds_wire::Bytes;
 use std::alloc::AllocError;
 
-/// Which shared object. Names order by host, then by kind, then by id.
+/// The name of a shared object. Names order by host, then by kind, then by id.
 #[derive(Clone, Copy, Debug, PartialEq, Eq, PartialOrd, Ord)]
 pub struct ObjectName {
-    /// The host's place in the document.
+    /// Its host's place in the document.
     pub host: u32,
-    /// 1 for the desk, 2 for a mailbox, 3 for a lane, 4 for an inlet.
+    /// 1 for a desk, 2 for a mailbox, 3 for a lane, 4 for an inlet.
     pub kind: u8,
-    /// A mailbox's slot, or a lane's or an inlet's place on its host; 0 for the desk.
+    /// 0 for the desk; a mailbox's slot, a lane's number, or an inlet's place on its host.
     pub id: u32,
 }
 
-/// An entry of an object's history.
+/// An entry of a shared object's history.
 #[derive(Debug, Drop)]
 pub struct Kept {
     /// The object.
     pub object: ObjectName,
-    /// The stamp, from 1 on.
+    /// The stamp of the event that made it, from 1 on.
     pub stamp: u64,
-    /// Who made the entry.
+    /// Who made the event.
     pub who: Actor,
-    /// What was done, as a number of the object's kind.
+    /// The number of the entry's act. Of a desk: 1 a look, 2 a tick, 3 a delegation, 4 an import, 5 a mapping, 6 a refusal. Of a
+    /// mailbox: 1 a put, 2 a put that found it full, 3 a take. Of a lane: 1 a message, 2 a message that found it full, 3 a lift.
+    /// Of an inlet: 1 a fresh number, 2 a stale one.
     pub act: u8,
-    /// The act's bytes.
+    /// What the entry says beside its act.
     pub body: Bytes,
 }
 

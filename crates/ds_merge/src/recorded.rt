@@ -7,18 +7,18 @@ use ds_script::Actor;
 use ds_wire::Bytes;
 use std::alloc::AllocError;
 
-/// An event of an actor, with the entry that it made and what it was handed out.
+/// An event of an actor, with the entry that it made and what was handed out.
 #[derive(Debug, Drop)]
 pub struct Recorded {
-    /// Who made the event.
+    /// The actor.
     pub who: Actor,
-    /// The stamp, from 1 on.
+    /// The event's stamp, from 1 on.
     pub stamp: u64,
-    /// What was done, as a number of the actor's kind.
+    /// The number of the event's act: 1 a step, 2 a frame, 3 an arrival, 4 an accept, 5 a delivery, 6 a tick.
     pub act: u8,
-    /// The act's bytes.
+    /// What the event says beside its act: of an arrival the bytes, of a tick the moment, and nothing else.
     pub body: Bytes,
-    /// The entry that the event made in the object that it touched; none where it touched none.
+    /// The entry that the event made in a shared object's history; none where it touched no object.
     pub touched: Option<Kept>,
     /// What the object handed out, as bytes.
     pub given: Bytes,

@@ -1,7 +1,7 @@
 -- A lane's worker with its record, as contracts see it.
 use Rattle.std.specs.Prelude.{ℕ, List, [], ◌∷◌, ◌++◌}
 use Rattle.ds_lane.specs.Workers.{Worker}
-use Rattle.ds_turn.specs.declared.record.Recorded.{Recorded}
+use Rattle.ds_merge.specs.declared.recorded.Recorded.{Recorded}
 
 -- the worker, the stamp of its last event, and its events in order
 pub record LaneRecord : Type 0 where

@@ -10,7 +10,7 @@ use Rattle.ds_share.specs.declared.desk_act.DeskReply.{DeskReply}
 use Rattle.ds_share.specs.declared.desk_act.DeskReply.TheVariants.{Done, Made, Local, Attached, Found, Named, Refused}
 use Rattle.ds_share.specs.Desks.{IsFrameAnswer, given_by_judge}
 use Rattle.ds_share.specs.Spelling.{spelling_of_waiting}
-use Rattle.ds_turn.specs.declared.record.Recorded.{Recorded}
+use Rattle.ds_merge.specs.declared.recorded.Recorded.{Recorded}
 use Rattle.ds_turn.specs.Records.{desk_name, entry_on, frame_event, lane_name}
 use Rattle.ds_turn.specs.LaneRecords.{LaneRecord, recorded}
 

@@ -1,9 +1,9 @@
 -- Names of shared objects, and events as actors record them.
 use Rattle.std.specs.Prelude.{ℕ, List, [], Some}
 use Rattle.ds_script.specs.declared.actor.Actor.{Actor}
-use Rattle.ds_turn.specs.declared.record.ObjectName.{ObjectName}
-use Rattle.ds_turn.specs.declared.record.Kept.{Kept}
-use Rattle.ds_turn.specs.declared.record.Recorded.{Recorded}
+use Rattle.ds_merge.specs.declared.kept.ObjectName.{ObjectName}
+use Rattle.ds_merge.specs.declared.kept.Kept.{Kept}
+use Rattle.ds_merge.specs.declared.recorded.Recorded.{Recorded}
 
 -- a host's desk
 abbrev pub desk_name : (host : ℕ) → ObjectName

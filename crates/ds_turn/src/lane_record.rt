@@ -11,9 +11,9 @@ ghost use Rattle.ds_turn.specs.Records.{desk_name, entry_on, frame_event, lane_n
 ghost use Rattle.ds_turn.specs.LaneRecords.{fresh_lane, recorded};
 ghost use Rattle.ds_turn.specs.LaneTurns.{judged_worker, judge_event, lift_event};
 
-use crate::record::{Kept, ObjectName, Recorded};
 use ds_base::Keeper;
 use ds_lane::{BodyBatch, LaneEnd, LaneFault};
+use ds_merge::{Kept, ObjectName, Recorded};
 use ds_script::Actor;
 use ds_share::{DeskReply, Receipt, TurnFault};
 use ds_wire::Bytes;

@@ -4,8 +4,6 @@
 
 mod lane;
 mod lane_record;
-mod record;
 
 pub use lane::lane_turn;
 pub use lane_record::RecordedLane;
-pub use record::{Kept, ObjectName, Recorded};
