@@ -4,6 +4,8 @@
 
 mod lane;
 mod lane_record;
+mod node;
 
 pub use lane::lane_turn;
 pub use lane_record::RecordedLane;
+pub use node::{BoxSeat, InletSeat, Node};
