@@ -13,6 +13,7 @@ pub mod Hosts
 pub mod Tests
 pub mod Whole
 pub mod Drafts
+pub mod Counted
 pub mod Answered
 pub mod Checked
 pub mod Heads

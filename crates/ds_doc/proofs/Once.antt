@@ -30,10 +30,10 @@ text_swap [] (y ∷ ys) = refl
 text_swap (x ∷ xs) [] = refl
 text_swap (x ∷ xs) (y ∷ ys) = ap (λ (b : Bool). b && same_text xs ys) (nat_swap x y) ∙ ap (λ (b : Bool). nat_eq y x && b) (text_swap xs ys)
 
-abbrev text_cmp : Bor (List ℕ) → Bor (List ℕ) → Ordering
+abbrev pub text_cmp : Bor (List ℕ) → Bor (List ℕ) → Ordering
 text_cmp x y = slice_cmp nat_cmp x.now y.now
 
-abbrev texts : List (Bor (List ℕ)) → List (List ℕ)
+abbrev pub texts : List (Bor (List ℕ)) → List (List ℕ)
 texts ts = map (λ t. t.now) ts
 
 abbrev among : List ℕ → List (List ℕ) → Bool
@@ -50,7 +50,7 @@ inserted_by x k xs s Equal e rest =
 inserted_by x k xs s Greater e rest =
     ap (λ (b : Bool). same_text x.now s || b) rest ∙ swap (same_text x.now s) (same_text k.now s) (among s (texts xs))
 
-inserted : (ks : List (Bor (List ℕ))) (k : Bor (List ℕ)) (s : List ℕ) → among s (texts (insert_key text_cmp ks k)) ≡ (same_text k.now s || among s (texts ks))
+pub inserted : (ks : List (Bor (List ℕ))) (k : Bor (List ℕ)) (s : List ℕ) → among s (texts (insert_key text_cmp ks k)) ≡ (same_text k.now s || among s (texts ks))
 inserted [] k s = refl
 inserted (x ∷ xs) k s = inserted_by x k xs s (text_cmp k x) refl (inserted xs k s)
 

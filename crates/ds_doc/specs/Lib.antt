@@ -10,4 +10,5 @@ pub mod Values
 pub mod Reading
 pub mod Listing
 pub mod Alike
+pub mod Counting
 pub mod Checking

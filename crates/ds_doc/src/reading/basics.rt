@@ -5,6 +5,7 @@ ghost use Rattle.ds_doc.specs.Draft as drafts;
 ghost use Rattle.ds_doc.specs.Places as places;
 ghost use Rattle.ds_doc.specs.Names.{or_empty};
 ghost use Rattle.ds_plan.specs.Documents.{stood};
+ghost use Rattle.ds_doc.specs.Counting.{AreCounted};
 ghost use Rattle.ds_doc.specs.Seen.{seen};
 
 use crate::draft::{Categories, CategoryName, HostName, HostNames, Placed};
@@ -14,6 +15,7 @@ use ds_label::Kind;
 use ds_plan::PartList;
 use ds_wire::Bytes;
 use std::alloc::{AllocError, Global};
+use std::collections::BTreeSet;
 
 /// The names of hosts, in order.
 pub(crate) type Names = PartList<Bytes>;
@@ -260,9 +262,9 @@ fn add_category(
     set.push(category)
 }
 
-/// The set of the categories that texts name.
+/// The set of the categories that texts name, each compared with those before it.
 #[tactic(auto, unfolding(crate::specs::Draft::set_of))]
-pub(crate) fn set_of(
+fn set_of_few(
     alloc: Global,
     names: &Names,
     most: usize,
@@ -275,6 +277,59 @@ pub(crate) fn set_of(
         add_category(&mut set, most, placed_category(alloc, names, spot)?)?;
     }
     Ok(set)
+}
+
+/// Appends the category that a text names, unless the text came before, or the category is there, or the set is full.
+fn add_text<'v>(
+    alloc: Global,
+    names: &Names,
+    set: &mut Categories,
+    known: &mut BTreeSet<&'v [u8]>,
+    most: usize,
+    spot: &Spot<'v>,
+) -> Result<(), AllocError>
+    requires { AreCounted most names.now set.old (map (λ t. t.now) known.old.keys) }
+    ensures set { OnOk result (set.new ≡ drafts.with_one most set.old (drafts.placed_category names.now (seen spot.now))) }
+    ensures known { OnOk result (AreCounted most names.now set.new (map (λ t. t.now) known.new.keys)) }
+{
+    if known.insert(spot.text())? {
+        add_category(set, most, placed_category(alloc, names, spot)?)?;
+    }
+    Ok(())
+}
+
+/// The set of the categories that texts name, each text compared once, however often it comes.
+#[tactic(auto, unfolding(crate::specs::Draft::set_of))]
+fn set_of_many(
+    alloc: Global,
+    names: &Names,
+    most: usize,
+    spots: &[Spot],
+) -> Result<Categories, AllocError>
+    ensures { IfOk result (λ c. c ≡ drafts.set_of most names.now (map seen spots.now)) }
+{
+    let mut set = Categories::new(alloc);
+    let mut known: BTreeSet<&[u8]> = BTreeSet::new(alloc);
+    for spot in spots {
+        add_text(alloc, names, &mut set, &mut known, most, spot)?;
+    }
+    Ok(set)
+}
+
+/// The set of the categories that texts name.
+pub(crate) fn set_of(
+    alloc: Global,
+    names: &Names,
+    most: usize,
+    spots: &[Spot],
+) -> Result<Categories, AllocError>
+    ensures { IfOk result (λ c. c ≡ drafts.set_of most names.now (map seen spots.now)) }
+{
+    if spots.len() <= most {
+        set_of_few(alloc, names, most, spots)
+    } else {
+        set_of_many(alloc, names, most, spots)
+    }
 }
 
 /// The label that a list of categories is.

@@ -1,7 +1,7 @@
 use Rattle.std.proofs.Common.{◌≡◌, [], drop, map}
 use Rattle.ds_doc.specs.Draft.{with_each, placed_category}
 use Rattle.ds_doc.specs.Seen.{seen}
-use Rattle.ds_doc.proofs.reading.basics.set_of.Given as goal
+use Rattle.ds_doc.proofs.reading.basics.set_of_few.Given as goal
 
 abbrev pub invariant-loop-spot : goal.invariant-loop-spot
 invariant-loop-spot l =
