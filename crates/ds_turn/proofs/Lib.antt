@@ -1,1 +1,5 @@
 mod Risings
+mod ConnSteps
+mod ConnTurning
+mod ConnAsks
+mod ConnMade

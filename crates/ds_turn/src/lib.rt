@@ -2,10 +2,14 @@
 //! actor the answer. Where it made an event, the actor records it with the entry that it met and with what was handed out.
 #![tactic(auto)]
 
+mod conn;
+mod conn_record;
 mod lane;
 mod lane_record;
 mod node;
 
+pub use conn::conn_turn;
+pub use conn_record::RecordedConn;
 pub use lane::lane_turn;
 pub use lane_record::RecordedLane;
 pub use node::{BoxSeat, InletSeat, Node};
