@@ -1,6 +1,6 @@
 -- What the plain world's connection asks where a turn of ours made an event, or none.
-use Rattle.std.proofs.Common.{◌≡◌, ℕ, cond, Bool, List, [], ◌∷◌, ◌++◌, Option, Some, None, length, map, slice_get, refl, sym, ap, ◌∙◌, subst, append_assoc}
-use Rattle.std.specs.Prelude.{◌+◌, ◌==◌, not, nat_lt, position, is_some, Ok, Err}
+use Rattle.std.proofs.Common.{◌≡◌, ℕ, cond, Bool, List, [], ◌∷◌, ◌++◌, Option, Some, None, map, slice_get, refl, sym, ap, ◌∙◌, subst, append_assoc}
+use Rattle.std.specs.Prelude.{◌+◌, ◌==◌, not, nat_lt, position}
 use Rattle.std.specs.List.{prefix_len}
 use Rattle.std.proofs.lemmas.List.{length-map}
 use Rattle.ds_label.specs.declared.category.PubKey.{PubKey}
@@ -12,10 +12,10 @@ use Rattle.ds_frame.specs.SoFar.{ahead}
 use Rattle.ds_frame.specs.Streams.{Stream}
 use Rattle.ds_frame.proofs.Pieces.{so_far_now}
 use Rattle.ds_model.specs.Scheme.{Scheme, InletName, Item as Seen}
-use Rattle.ds_model.specs.Plan.{BoxPlan, HostPlan}
-use Rattle.ds_model.specs.World.{Conn, Passed}
+use Rattle.ds_model.specs.Plan.{HostPlan}
+use Rattle.ds_model.specs.World.{Passed}
 use Rattle.ds_model.specs.ProcessStep.{box_of}
-use Rattle.ds_model.specs.ConnectionStep.{AsksArrival, PutsPassed, deliver, deliver_from, deliver_to, hello_of, peer, put_passed}
+use Rattle.ds_model.specs.ConnectionStep.{AsksArrival, ConnWaits, PutsPassed, deliver, deliver_from, deliver_to, hello_of, peer, put_passed}
 use Rattle.ds_inlet.specs.Hosts.{host_item, host_reading, items_of, seen_of_items, seen_or_none}
 use Rattle.ds_inlet.specs.Connections.{Connection}
 use Rattle.ds_inlet.specs.PlainConnections.{plain_conn}
@@ -23,6 +23,7 @@ use Rattle.ds_inlet.specs.Accepting.{BeginsWith, IsReadSoFar, inlet_plan, inlet_
 use Rattle.ds_inlet.proofs.Steady.{steady_host}
 use Rattle.ds_turn.specs.declared.node.BoxSeat.{BoxSeat}
 use Rattle.ds_turn.specs.ConnTurns.{HasHelloFirst, place_of}
+use Rattle.ds_turn.specs.ConnAsks.{DeliversBy, PutsBy, slot_in, slot_of}
 
 -- THE CERTIFICATE OF ITS HELLO
 
@@ -39,12 +40,6 @@ prefix_seen g p (x ∷ xs) = ap (λ n. cond (p (g x)) (1 + n) 0) (prefix_seen g 
 
 position_seen : {X Y : Type 0} (g : X → Y) (p : Y → Bool) (xs : List X) → position (λ x. p (g x)) xs ≡ position p (map g xs)
 position_seen g p xs = λ i. cond (nat_lt (prefix_seen g (λ y. not (p y)) xs i) (sym (length-map xs g) i)) (Some (prefix_seen g (λ y. not (p y)) xs i)) None
-
-abbrev slot_in : BoxPlan → ℕ
-slot_in b = b.slot
-
-abbrev slot_of : BoxSeat → ℕ
-slot_of seat = seat.slot
 
 -- mailboxes with the same slots
 pub box_is : (plan : HostPlan) (boxes : List BoxSeat) (slot : ℕ) → map slot_in plan.boxes ≡ map slot_of boxes → box_of plan slot ≡ place_of boxes slot
@@ -86,14 +81,21 @@ module _ (k : Connection) (is : IsReadSoFar k) where
       ∙ ap (put_passed (plain_conn link (Some p) k) p.mail) found
 
   -- with a message that passed
-  pub asks_put : HasHelloFirst k → (boxes : List BoxSeat) (slot place : ℕ) (mail : LocalMessage) → k.passed ≡ Some (slot, mail) → place_of boxes slot ≡ Some place
-      → (s : Scheme) (plan : HostPlan) (link : List ℕ) (p : Passed) → map slot_in plan.boxes ≡ map slot_of boxes → p.slot ≡ slot
-      → deliver (inlet_scheme s) (inlet_plan plan k) (plain_conn link (Some p) k) k.arrived ≡ PutsPassed place p.mail (plain_conn link None (record k { passed = None }))
-  asks_put hello boxes slot place mail passed found s plan link p same at = go k.reader.lane refl
+  pub asks_put : HasHelloFirst k → (boxes : List BoxSeat) (slot place : ℕ) (mail : LocalMessage) → k.passed ≡ Some (slot, mail) → place_of boxes slot ≡ Some place → PutsBy boxes slot place k
+  asks_put hello boxes slot place mail passed found = λ s plan link p same at. go s plan link p same at k.reader.lane refl
     where
       none_passed : (o : Option (ℕ × LocalMessage)) → o ≡ Some (slot, mail) → o ≡ None → ⊥
       none_passed o some none = absurd cc
 
-      go : (o : Option LaneCert) → k.reader.lane ≡ o → deliver (inlet_scheme s) (inlet_plan plan k) (plain_conn link (Some p) k) k.arrived ≡ PutsPassed place p.mail (plain_conn link None (record k { passed = None }))
-      go None none = absurd (none_passed k.passed passed (hello none).1)
-      go (Some lane) known = asks_passed s plan link p place lane known (ap (box_of plan) at ∙ (box_is plan boxes slot same ∙ found))
+      go : (s : Scheme) (plan : HostPlan) (link : List ℕ) (p : Passed) → map slot_in plan.boxes ≡ map slot_of boxes → p.slot ≡ slot → (o : Option LaneCert) → k.reader.lane ≡ o
+          → deliver (inlet_scheme s) (inlet_plan plan k) (plain_conn link (Some p) k) k.arrived ≡ PutsPassed place p.mail (plain_conn link None (record k { passed = None }))
+      go s plan link p same at None none = absurd (none_passed k.passed passed (hello none).1)
+      go s plan link p same at (Some lane) known = asks_passed s plan link p place lane known (ap (box_of plan) at ∙ (box_is plan boxes slot same ∙ found))
+
+-- with nothing in hand and nothing passed
+pub asks_nothing : (k : Connection) → k.hand ≡ [] → DeliversBy k (λ link. ConnWaits)
+asks_nothing k hand = λ s plan link. go plan link (peer (inlet_scheme s) (inlet_plan plan k) k.arrived)
+  where
+    go : (plan : HostPlan) (link : List ℕ) (o : Option LaneCert) → deliver_from (inlet_plan plan k) (plain_conn link None k) o ≡ ConnWaits
+    go plan link None = refl
+    go plan link (Some lane) = ap (λ (ms : List Message). deliver_to (inlet_plan plan k) (plain_conn link None k) lane ms None) hand

@@ -1,5 +1,5 @@
 -- A turn of a connection, by what its calls answered.
-use Rattle.std.proofs.Common.{◌≡◌, ℕ, Bool, true, false, List, [], ◌∷◌, Option, Some, None, slice_get, refl, sym, ap, subst, ◌∙◌}
+use Rattle.std.proofs.Common.{◌≡◌, ℕ, true, List, [], ◌∷◌, Option, Some, None, slice_get, refl, sym, ap, subst, ◌∙◌}
 use Rattle.std.specs.Prelude.{is_some, Result, Ok, Err, OnErr}
 use Rattle.ds_label.specs.declared.rule.Rule.{Rule}
 use Rattle.ds_cert.specs.declared.lane.LaneCert.{LaneCert}
@@ -20,7 +20,7 @@ use Rattle.ds_share.specs.Desks.{IsReceiptOfAct}
 use Rattle.ds_turn.specs.declared.node.BoxSeat.{BoxSeat}
 use Rattle.ds_turn.specs.Records.{desk_name, entry_on}
 use Rattle.ds_turn.specs.ConnRecords.{ConnRecord, recorded, with_conn}
-use Rattle.ds_turn.specs.ConnTurns.{HasNothing, IsBroken, IsJudged, IsVerdict, Judges, KeepsBack, Offers, Rests, after_verdict, arrival_event, conn_event}
+use Rattle.ds_turn.specs.ConnTurns.{HasNothing, IsBroken, IsJudged, IsVerdict, Judges, KeepsBack, Offers, Rests, after_verdict, conn_event}
 
 pub on_err : {X E : Type 0} (P : Type 0) (r : Result X E) → P → OnErr r P
 on_err P (Ok x) p = tt

@@ -1,6 +1,6 @@
 -- What a turn leaves of a connection: it still leads to its host.
-use Rattle.std.proofs.Common.{◌≡◌, ℕ, ◌<◌, Bool, true, false, List, [], ◌∷◌, Option, Some, None, length, map, refl, sym, ap, subst, ◌∙◌}
-use Rattle.std.specs.Prelude.{◌==◌, ◌&&◌, is_some, position, Result, Ok, Err}
+use Rattle.std.proofs.Common.{◌≡◌, ℕ, ◌<◌, Bool, true, false, List, [], ◌∷◌, Option, Some, None, length, refl, sym, ap, subst, ◌∙◌}
+use Rattle.std.specs.Prelude.{◌==◌, ◌&&◌, is_some, Result, Ok, Err}
 use Rattle.std.proofs.lemmas.List.{length-map}
 use Rattle.std.proofs.lemmas.List.Quantifiers.{position-Some}
 use Rattle.ds_label.specs.Numbers.{by_number}
@@ -21,9 +21,8 @@ use Rattle.ds_inlet.specs.Connections.{Connection, ReadStep, lane_inlet_of, pass
 use Rattle.ds_share.specs.declared.desk_act.DeskReply.{DeskReply}
 use Rattle.ds_share.specs.declared.desk_act.DeskReply.TheVariants.{Done, Made, Local, Attached, Found, Named, Refused}
 use Rattle.ds_turn.specs.declared.node.BoxSeat.{BoxSeat}
-use Rattle.ds_turn.specs.declared.node.InletSeat.{InletSeat}
 use Rattle.ds_turn.specs.declared.node.Node.{Node}
-use Rattle.ds_turn.specs.ConnTurns.{HasBox, HasHelloFirst, IsVerdict, LeadsTo, after_verdict, by_rule, label_at, mail_in, name_of_seat, place_of, slot_rule}
+use Rattle.ds_turn.specs.ConnTurns.{HasBox, IsVerdict, LeadsTo, after_verdict, by_rule, label_at, mail_in, name_of_seat, place_of, slot_rule}
 
 -- A CALL OF READ
 

@@ -1,12 +1,13 @@
 -- Turns of a connection, by what they did, leave it leading to its host.
-use Rattle.std.proofs.Common.{◌≡◌, sym, ap, subst, ◌∙◌}
+use Rattle.std.proofs.Common.{◌≡◌, ℕ, List, map, refl, sym, subst}
 use Rattle.std.specs.Prelude.{Ok, Err}
 use Rattle.ds_frame.specs.declared.item.ReadEnd.TheVariants as ends
 use Rattle.ds_inlet.specs.declared.offer.Offer.TheVariants as offers
-use Rattle.ds_inlet.specs.Connections.{Connection}
+use Rattle.ds_inlet.specs.Connections.{Connection, arrived_more, new_connection}
+use Rattle.ds_script.specs.declared.actor.Actor.{Actor}
 use Rattle.ds_turn.specs.declared.node.Node.{Node}
 use Rattle.ds_turn.specs.ConnRecords.{ConnRecord}
-use Rattle.ds_turn.specs.ConnTurns.{AsItWas, Broke, Counted, Greeted, Judged, KeepsBack, LeadsTo, Offers, Put, Rests, TookConnTurn}
+use Rattle.ds_turn.specs.ConnTurns.{AsItWas, Broke, Counted, Greeted, Judged, KeepsBack, LeadsTo, Offers, Put, Rests, TookConnTurn, name_of_seat}
 use Rattle.ds_turn.proofs.ConnSteps.{leads_judged, leads_put, leads_read, leads_settled, read_from}
 
 module _ (node : Node) (a b : ConnRecord) (leads : LeadsTo node a.conn) where
@@ -26,3 +27,10 @@ module _ (node : Node) (a b : ConnRecord) (leads : LeadsTo node a.conn) where
 
   pub leads_rest : Rests a b → LeadsTo node b.conn
   leads_rest t = conn_is a t.same leads
+
+-- before any byte, and after more of them
+pub leads_new : (node : Node) (who : Actor) → LeadsTo node (new_connection who node.desk (map name_of_seat node.inlets.items))
+leads_new node who = record { here = refl; inlets = refl; passed = tt; hello = λ none. (refl, refl) }
+
+pub leads_arrived : (node : Node) (piece : List ℕ) (k : Connection) → LeadsTo node k → LeadsTo node (arrived_more piece k)
+leads_arrived node piece k leads = record { here = leads.here; inlets = leads.inlets; passed = leads.passed; hello = leads.hello }

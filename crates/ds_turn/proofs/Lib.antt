@@ -3,3 +3,4 @@ mod ConnSteps
 mod ConnTurning
 mod ConnAsks
 mod ConnMade
+mod ConnPlain

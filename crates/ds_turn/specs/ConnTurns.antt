@@ -1,5 +1,5 @@
 -- What a turn of a connection does: with an empty hand and nothing passed it accepts, and else it delivers.
-use Rattle.std.specs.Prelude.{◌≡◌, ◌⊎◌, ℕ, ◌+◌, ◌<◌, ◌==◌, Bool, true, List, [], ◌∷◌, map, position, slice_get, Option, Some, None, is_some, option_map, Result, Ok, Err}
+use Rattle.std.specs.Prelude.{◌≡◌, ◌⊎◌, ℕ, ◌+◌, ◌<◌, ◌≤◌, ◌==◌, true, List, [], ◌∷◌, map, position, slice_get, Option, Some, None, is_some, option_map, MatchOption, Result, Ok, Err}
 use Rattle.std.specs.Option.{is_none}
 use Rattle.std.specs.Int.{w32, to_be_bytes}
 use Rattle.ds_label.specs.Numbers.{by_number}
@@ -91,7 +91,8 @@ conn_event act kept given = record { who = kept.who; stamp = kept.stamp; act = a
 
 -- an accept of a frame: the inlet at that place enters its number, as fresh where it told no last number, and as stale where it told one
 abbrev pub count_event : Actor → (stamp inlet number : ℕ) → (told : Option Stale) → Recorded
-count_event who stamp inlet number told = conn_event 4 (entry_on (inlet_name who.host inlet) who stamp (answered_number told) (to_be_bytes w32 number)) []
+count_event who stamp inlet number told =
+    conn_event 4 (entry_on (inlet_name who.host inlet) who stamp (answered_number told) (to_be_bytes w32 number)) []
 
 -- a delivery into the mailbox with that slot, which enters the message as queued (act 1) or as dropped since it is full (act 2)
 abbrev pub put_event : Actor → (stamp slot act : ℕ) → LocalMessage → Recorded
@@ -123,9 +124,10 @@ pub record Breaks (a b : ConnRecord) : Type 0 where
   pub becomes : b ≡ recorded next (read_event a.conn.who (a.stamp + 1)) a
 
 -- The offered frame, with that number, was settled by the inlet at that place: it is fresh where that told no last number, and
--- else stale.
+-- else stale, since the last number isn't below it.
 pub record IsCounted (inlet number : ℕ) (a b : ConnRecord) : Type 0 where
   pub told : Option Stale
+  pub last : MatchOption told (Unit {0}) (λ s. number ≤ s.last)
   pub stamp : ℕ
   pub later : a.stamp < stamp
   pub becomes : b ≡ recorded (settled (is_none told) a.conn) (count_event a.conn.who stamp inlet number told) a
@@ -214,7 +216,8 @@ pub data TookConnTurn (boxes : List BoxSeat) (a b : ConnRecord) : Type 0 where
 -- Nothing is there to be read: the next item isn't whole yet, or the stream is broken, which was read before.
 pub data HasNothing (k : Connection) : Type 0 where
   IsOpen : read_step k ≡ record { answer = Err ends.NotYet; conn = k } → HasNothing k
-  IsBroken : (failure : Failure) → k.reader.failure ≡ Some failure → read_step k ≡ record { answer = Err (ends.BadFrame failure.cause failure.place); conn = k } → HasNothing k
+  IsBroken : (failure : Failure) → k.reader.failure ≡ Some failure
+      → read_step k ≡ record { answer = Err (ends.BadFrame failure.cause failure.place); conn = k } → HasNothing k
 
 -- A turn that made none: nothing is in hand, nothing passed and nothing is there to be read.
 pub record Rests (a b : ConnRecord) : Type 0 where
@@ -227,4 +230,5 @@ pub record Rests (a b : ConnRecord) : Type 0 where
 -- settles it.
 pub data KeepsBack (a b : ConnRecord) : Type 0 where
   AsItWas : b ≡ a → KeepsBack a b
-  Offers : (inlet number : ℕ) → read_step a.conn ≡ record { answer = Ok (offers.Frame inlet number); conn = b.conn } → b ≡ with_conn b.conn a → KeepsBack a b
+  Offers : (inlet number : ℕ) → read_step a.conn ≡ record { answer = Ok (offers.Frame inlet number); conn = b.conn }
+      → b ≡ with_conn b.conn a → KeepsBack a b

@@ -5,3 +5,4 @@ pub mod LaneTurns
 pub mod ConnRecords
 pub mod ConnInside
 pub mod ConnTurns
+pub mod ConnAsks

@@ -1,13 +1,12 @@
 //! A turn of a connection.
 
-ghost use Rattle.std.specs.Prelude.{◌≡◌, ◌<◌, [], None, Some, length, option_copied, position, true, is_some, IfErr, IfOk, IfSome, OnOk, OnErr};
-ghost use Rattle.std.specs.Prelude.{◌==◌};
+ghost use Rattle.std.specs.Prelude.{◌≡◌, ◌<◌, [], None, length, option_copied, true, is_some, IfErr, IfOk, IfSome, OnOk, OnErr};
 ghost use Rattle.std.specs.Bool.{MatchBool};
-ghost use Rattle.ds_msg.specs.Ranges.{MessageRange};
 ghost use Rattle.ds_inlet.specs.Connections.{IsOfferedAt, IsShortMessage};
 ghost use Rattle.ds_share.specs.declared.desk_act.DeskAct.TheVariants as acts;
 ghost use Rattle.ds_share.specs.Desks.{IsArrivalAnswer, IsReceiptOfAct};
 ghost use Rattle.ds_share.specs.Mailboxes.{IsReceiptOfPut};
+ghost use Rattle.ds_turn.specs.ConnAsks.{AsksInTurn, IsSamePlain};
 ghost use Rattle.ds_turn.specs.ConnTurns.{HasHelloFirst, IsCounted, IsJudged, IsVerdict, Judges, KeepsBack, LeadsTo, Puts, Rests, TookConnTurn, label_at, place_of, slot_rule};
 
 use crate::conn_record::RecordedConn;
@@ -17,7 +16,7 @@ use ds_cert::LaneCert;
 use ds_flow::judge_box;
 use ds_frame::ReadEnd;
 use ds_inlet::Offer;
-use ds_label::{LocalLabel, PubKey, Rule};
+use ds_label::{LocalLabel, Rule};
 use ds_msg::{LocalMessage, Message};
 use ds_script::Actor;
 use ds_share::{DeskAct, DeskReply, Receipt, SharedDesk, TurnFault};
@@ -54,7 +53,8 @@ fn accept_turn<R: Wait>(rt: &R, node: &Node, conn: &mut RecordedConn) -> Result<
     requires hand { conn.old.link.conn.hand ≡ [] }
     requires free { conn.old.link.conn.passed ≡ None }
     requires leads { LeadsTo node.now conn.old.link.conn }
-    ensures ok { IfOk result (λ made. MatchBool made (TookConnTurn node.now.boxes.items conn.old.link conn.new.link) (Rests conn.old.link conn.new.link)) }
+    ensures ok { IfOk result (λ made. MatchBool made (TookConnTurn node.now.boxes.items conn.old.link conn.new.link)
+        (Rests conn.old.link conn.new.link)) }
     ensures err { OnErr result (KeepsBack conn.old.link conn.new.link) }
 {
     conn.reserve()?;
@@ -260,6 +260,31 @@ fn judge_turn<R: Wait>(rt: &R, node: &Node, conn: &mut RecordedConn) -> Result<(
     Ok(())
 }
 
+/// One turn, without a word of the plain world.
+fn one_turn<G: Gate, R: Wait>(
+    rt: &R,
+    gate: &G,
+    node: &Node,
+    conn: &mut RecordedConn,
+) -> Result<bool, AllocError>
+    requires leads { LeadsTo node.now conn.old.link.conn }
+    ensures ok { IfOk result (λ made. MatchBool made (TookConnTurn node.now.boxes.items conn.old.link conn.new.link)
+        (Rests conn.old.link conn.new.link)) }
+    ensures err { OnErr result (KeepsBack conn.old.link conn.new.link) }
+    ensures leads { LeadsTo node.now conn.new.link.conn }
+{
+    if conn.conn().has_passed() {
+        put_turn(rt, gate, node, conn)?;
+        return Ok(true);
+    }
+    if conn.conn().front().is_none() {
+        let made = accept_turn(rt, node, conn)?;
+        return Ok(made);
+    }
+    judge_turn(rt, node, conn)?;
+    Ok(true)
+}
+
 /// Tries one event of a connection over what the threads of its host share. With an empty hand and nothing passed it accepts: a
 /// hello is taken; a frame is fresh where its number is above its inlet's, and then its messages come to hand, and else it is
 /// stale and dropped; a stream that is broken fails the connection for good. Else it delivers: a message that passed is put into
@@ -279,18 +304,15 @@ pub fn conn_turn<G: Gate, R: Wait>(
     conn: &mut RecordedConn,
 ) -> Result<bool, AllocError>
     requires leads { LeadsTo node.now conn.old.link.conn }
-    ensures ok { IfOk result (λ made. MatchBool made (TookConnTurn node.now.boxes.items conn.old.link conn.new.link) (Rests conn.old.link conn.new.link)) }
+    ensures ok { IfOk result (λ made. MatchBool made (TookConnTurn node.now.boxes.items conn.old.link conn.new.link)
+        (Rests conn.old.link conn.new.link)) }
     ensures err { OnErr result (KeepsBack conn.old.link conn.new.link) }
     ensures leads { LeadsTo node.now conn.new.link.conn }
+    ensures asks { IfOk result (AsksInTurn node.now.boxes.items conn.old.link conn.new.link) }
+    ensures plain { OnErr result (IsSamePlain conn.old.link.conn conn.new.link.conn) }
 {
-    if conn.conn().has_passed() {
-        put_turn(rt, gate, node, conn)?;
-        return Ok(true);
-    }
-    if conn.conn().front().is_none() {
-        let made = accept_turn(rt, node, conn)?;
-        return Ok(made);
-    }
-    judge_turn(rt, node, conn)?;
-    Ok(true)
+    conn.conn().is_read_so_far();
+    conn.conn().is_admitted();
+    let made = one_turn(rt, gate, node, conn)?;
+    Ok(made)
 }

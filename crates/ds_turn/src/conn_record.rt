@@ -4,7 +4,6 @@ ghost use Rattle.std.specs.Prelude.{◌≡◌, ◌<◌, ◌+◌, ◌-◌, ◌^�
 ghost use Rattle.std.specs.Option.{is_none};
 ghost use Rattle.ds_inlet.specs.Connections.{IsForLane, IsOffered, IsShortMessage, IsShortPassed, Reads, arrived_more, lane_inlet_of, settled};
 ghost use Rattle.ds_script.specs.Replay.{last_of, rises};
-ghost use Rattle.ds_share.specs.Mailboxes.{IsReceiptOfPut};
 ghost use Rattle.ds_share.specs.Receipts.{next_stamp};
 ghost use Rattle.ds_share.specs.SharedInlets.{IsReceiptOfAccept};
 ghost use Rattle.ds_turn.specs.Records.{desk_name, entry_on, stamp_of};
@@ -182,7 +181,9 @@ impl RecordedConn {
     pub(crate) fn give_back(&mut self, slot: u32, message: LocalMessage)
         requires free { self.old.link.conn.passed ≡ None }
         requires short { IsShortMessage message }
-        ensures { self.new ≡ record self.old { link = with_conn (record self.old.link.conn { passed = Some (slot, message) }) self.old.link } }
+        ensures { self.new ≡ record self.old {
+          link = with_conn (record self.old.link.conn { passed = Some (slot, message) }) self.old.link;
+        } }
     {
         self.conn.give_back(slot, message);
     }
@@ -192,7 +193,8 @@ impl RecordedConn {
         requires room { 0 < self.old.spare }
         requires later { self.old.link.stamp < receipt.stamp }
         ensures { self.new.link ≡ recorded self.old.link.conn
-            (conn_event 5 (entry_on (box_name self.old.link.conn.who.host slot) self.old.link.conn.who receipt.stamp receipt.act receipt.body) receipt.given) self.old.link }
+            (conn_event 5 (entry_on (box_name self.old.link.conn.who.host slot) self.old.link.conn.who receipt.stamp receipt.act receipt.body)
+            receipt.given) self.old.link }
     {
         let who = self.conn.who();
         let event = conn_event(self.alloc, DELIVER, box_name(who.host, slot), who, receipt);
@@ -207,7 +209,8 @@ impl RecordedConn {
         requires front { 0 < length self.old.link.conn.hand }
         requires later { self.old.link.stamp < receipt.stamp }
         ensures { self.new.link ≡ recorded (after_verdict verdict self.old.link.conn)
-            (conn_event 5 (entry_on (desk_name self.old.link.conn.who.host) self.old.link.conn.who receipt.stamp receipt.act receipt.body) receipt.given) self.old.link }
+            (conn_event 5 (entry_on (desk_name self.old.link.conn.who.host) self.old.link.conn.who receipt.stamp receipt.act receipt.body)
+            receipt.given) self.old.link }
     {
         let who = self.conn.who();
         settle(&mut self.conn, verdict);

@@ -3,12 +3,14 @@
 #![tactic(auto)]
 
 mod conn;
+mod conn_laws;
 mod conn_record;
 mod lane;
 mod lane_record;
 mod node;
 
 pub use conn::conn_turn;
+pub use conn_laws::connections_lead_to_their_hosts;
 pub use conn_record::RecordedConn;
 pub use lane::lane_turn;
 pub use lane_record::RecordedLane;
