@@ -4,3 +4,4 @@ mod ConnTurning
 mod ConnAsks
 mod ConnMade
 mod ConnPlain
+mod ConnVerdicts

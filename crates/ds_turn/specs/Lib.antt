@@ -6,3 +6,4 @@ pub mod ConnRecords
 pub mod ConnInside
 pub mod ConnTurns
 pub mod ConnAsks
+pub mod ConnVerdicts

@@ -10,7 +10,7 @@ mod lane_record;
 mod node;
 
 pub use conn::conn_turn;
-pub use conn_laws::connections_lead_to_their_hosts;
+pub use conn_laws::{connections_lead_to_their_hosts, verdicts_are_the_plain_worlds};
 pub use conn_record::RecordedConn;
 pub use lane::lane_turn;
 pub use lane_record::RecordedLane;
