@@ -291,7 +291,7 @@ fn one_turn<G: Gate, R: Wait>(
 /// the mailbox with its slot, or dropped where that is full; where none is, the first message of the hand is judged by the desk
 /// and by that mailbox's label, and passes or is dropped by the first rule that fails. True where that made an event, which the
 /// connection recorded at its stamp with the entry that it met and what was handed out; false where it made none: nothing is in
-/// hand or passed then, there is nothing to be read, and the connection is as it was.
+/// hand or passed then, there is nothing to be read, and the connection is as it was. Where no stamp is left it waits.
 ///
 /// # Errors
 ///
