@@ -1,6 +1,7 @@
 -- What a turn leaves of a connection: it still leads to its host.
-use Rattle.std.proofs.Common.{◌≡◌, ℕ, ◌<◌, Bool, true, false, List, [], ◌∷◌, Option, Some, None, length, refl, sym, ap, subst, ◌∙◌}
-use Rattle.std.specs.Prelude.{◌==◌, ◌&&◌, is_some, Result, Ok, Err}
+use Rattle.std.proofs.Common.{◌≡◌, ℕ, ◌<◌, Bool, true, false, List, [], ◌∷◌, Option, Some, None, length, refl, sym, ap, subst, ◌∙◌, arith}
+use Rattle.std.proofs.lemmas.Bool.Decides.{nat_tests}
+use Rattle.std.specs.Prelude.{slice_index_or, ◌==◌, ◌&&◌, is_some, Result, Ok, Err}
 use Rattle.std.proofs.lemmas.List.{length-map}
 use Rattle.std.proofs.lemmas.List.Quantifiers.{position-Some}
 use Rattle.ds_label.specs.Numbers.{by_number}
@@ -112,6 +113,15 @@ leads_settled node m b place leads there = go (settled b m) (settled_from m b m.
 
 pub leads_put : (node : Node) (k : Connection) → LeadsTo node k → LeadsTo node (record k { passed = None })
 leads_put node k leads = record { here = leads.here; inlets = leads.inlets; passed = tt; hello = λ none. ((leads.hello none).0, refl) }
+
+same_slot : (a b : ℕ) → (a == b) ≡ true → a ≡ b
+same_slot a b e = grind (arith, nat_tests)
+
+-- the mailbox at the place of a slot has that slot
+pub slot_at : (boxes : List BoxSeat) (slot i : ℕ) (seat : BoxSeat) → Some i ≡ place_of boxes slot → seat ≡ slice_index_or boxes i seat → seat.slot ≡ slot
+slot_at boxes slot i seat found at =
+    let has = (position-Some (λ (b : BoxSeat). b.slot == slot) boxes i seat (sym found)).1 in
+    same_slot seat.slot slot (subst (λ (b : BoxSeat). (b.slot == slot) ≡ true) (sym at) has)
 
 -- A MESSAGE THAT IS JUDGED
 

@@ -1,16 +1,16 @@
 //! A turn of a connection.
 
-ghost use Rattle.std.specs.Prelude.{◌≡◌, ◌<◌, [], None, length, option_copied, true, is_some, IfErr, IfOk, IfSome, OnOk, OnErr};
+ghost use Rattle.std.specs.Prelude.{◌≡◌, ◌<◌, [], None, Some, length, map, option_copied, slice_get, true, is_some, IfErr, IfOk, IfSome, OnOk, OnErr};
 ghost use Rattle.std.specs.Bool.{MatchBool};
 ghost use Rattle.ds_inlet.specs.Connections.{IsOfferedAt, IsShortMessage};
 ghost use Rattle.ds_share.specs.declared.desk_act.DeskAct.TheVariants as acts;
 ghost use Rattle.ds_share.specs.Desks.{IsArrivalAnswer, IsReceiptOfAct};
 ghost use Rattle.ds_share.specs.Mailboxes.{IsReceiptOfPut};
 ghost use Rattle.ds_turn.specs.ConnAsks.{AsksInTurn, IsSamePlain};
-ghost use Rattle.ds_turn.specs.ConnTurns.{HasHelloFirst, IsCounted, IsJudged, IsVerdict, Judges, KeepsBack, LeadsTo, Puts, Rests, TookConnTurn, label_at, place_of, slot_rule};
+ghost use Rattle.ds_turn.specs.ConnTurns.{HasHelloFirst, IsCounted, IsJudged, IsVerdict, Judges, KeepsBack, LeadsTo, Puts, Rests, TookConnTurn, label_at, name_of_seat, place_of, slot_rule};
 
 use crate::conn_record::RecordedConn;
-use crate::node::{BoxSeat, Node};
+use crate::node::{BoxSeat, InletSeat, Node};
 use ds_base::{CalmKeeper, Gate};
 use ds_cert::LaneCert;
 use ds_flow::judge_box;
@@ -24,8 +24,28 @@ use ds_wire::Bytes;
 use std::alloc::AllocError;
 use std::sync::Wait;
 
-/// The frame that is offered goes to the inlet at that place, and is settled by what that tells. `AllocError` where memory runs
-/// out; nothing changed then, and the frame stays offered.
+/// The frame that is offered goes to the inlet of that seat, whose name is the one at that place, and is settled by what that tells.
+/// `AllocError` where memory runs out; nothing changed then, and the frame stays offered.
+fn count_at<R: Wait>(
+    rt: &R,
+    seat: &InletSeat,
+    conn: &mut RecordedConn,
+    inlet: u32,
+    number: u32,
+) -> Result<(), AllocError>
+    requires seat { slice_get conn.old.link.conn.inlets inlet ≡ Some (name_of_seat seat.now) }
+    requires room { (0 < conn.old.spare) × (0 < conn.old.entries) }
+    requires offered { IsOfferedAt inlet number conn.old.link.conn.offered }
+    ensures ok { OnOk result (IsCounted inlet number conn.old.link conn.new.link) }
+    ensures err { OnErr result (conn.new.link ≡ conn.old.link) }
+{
+    let who = conn.conn().who();
+    let (receipt, told) = seat.inlet.accept(rt, conn.stamp(), who, number)?;
+    conn.counted(inlet, number, receipt, told);
+    Ok(())
+}
+
+/// The same with the inlet at that place.
 fn count_turn<R: Wait>(
     rt: &R,
     node: &Node,
@@ -35,14 +55,13 @@ fn count_turn<R: Wait>(
 ) -> Result<(), AllocError>
     requires room { (0 < conn.old.spare) × (0 < conn.old.entries) }
     requires offered { IsOfferedAt inlet number conn.old.link.conn.offered }
+    requires names { conn.old.link.conn.inlets ≡ map name_of_seat node.now.inlets.items }
     requires place { inlet < length node.now.inlets.items }
     ensures ok { OnOk result (IsCounted inlet number conn.old.link conn.new.link) }
     ensures err { OnErr result (conn.new.link ≡ conn.old.link) }
 {
-    let who = conn.conn().who();
     let seat = &node.inlets[inlet as usize];
-    let (receipt, told) = seat.inlet.accept(rt, conn.stamp(), who, number)?;
-    conn.counted(inlet, number, receipt, told);
+    count_at(rt, seat, conn, inlet, number)?;
     Ok(())
 }
 
@@ -97,8 +116,26 @@ fn label_of(boxes: &[BoxSeat], place: Option<usize>) -> Option<&LocalLabel>
     Some(&boxes[place].label)
 }
 
-/// Puts a message into the mailbox with that slot, of which there is one. `AllocError` with the message where memory runs out;
-/// nothing is entered then.
+/// Puts a message into the mailbox of that seat, which has that slot. `AllocError` with the message where memory runs out; nothing
+/// is entered then.
+fn put_at<G: Gate, R: Wait>(
+    rt: &R,
+    gate: &G,
+    seat: &BoxSeat,
+    slot: u32,
+    stamp: u64,
+    who: Actor,
+    message: LocalMessage,
+) -> Result<Receipt, (LocalMessage, AllocError)>
+    requires seat { seat.now.slot ≡ slot }
+    requires short { IsShortMessage message }
+    ensures ok { IfOk result (IsReceiptOfPut stamp message) }
+    ensures err { IfErr result (λ e. e.0 ≡ message) }
+{
+    seat.mailbox.put(rt, gate, slot, stamp, who, message)
+}
+
+/// The same with the first mailbox with that slot, of which there is one.
 fn put_into<G: Gate, R: Wait>(
     rt: &R,
     gate: &G,
@@ -116,9 +153,8 @@ fn put_into<G: Gate, R: Wait>(
     let Some(place) = place_for(boxes, slot) else {
         unreachable!();
     };
-    boxes[place]
-        .mailbox
-        .put(rt, gate, slot, stamp, who, message)
+    let seat = &boxes[place];
+    put_at(rt, gate, seat, slot, stamp, who, message)
 }
 
 /// A turn with a message that passed: it is put into the mailbox with its slot. `AllocError` where memory runs out; only the room
