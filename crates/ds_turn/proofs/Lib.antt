@@ -1,1 +1,7 @@
 mod Risings
+mod ConnSteps
+mod ConnTurning
+mod ConnAsks
+mod ConnMade
+mod ConnPlain
+mod ConnVerdicts

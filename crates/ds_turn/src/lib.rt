@@ -2,10 +2,16 @@
 //! actor the answer. Where it made an event, the actor records it with the entry that it met and with what was handed out.
 #![tactic(auto)]
 
+mod conn;
+mod conn_laws;
+mod conn_record;
 mod lane;
 mod lane_record;
 mod node;
 
+pub use conn::conn_turn;
+pub use conn_laws::{connections_lead_to_their_hosts, verdicts_are_the_plain_worlds};
+pub use conn_record::RecordedConn;
 pub use lane::lane_turn;
 pub use lane_record::RecordedLane;
 pub use node::{BoxSeat, InletSeat, Node};
