@@ -1,1 +1,8 @@
 mod Risings
+mod SeatPlaces
+mod ProcTables
+mod ProcSteps
+mod ProcAskings
+mod ProcRuns
+mod ProcCertificates
+mod ProcTurned

@@ -2,3 +2,11 @@ pub mod Records
 pub mod LaneRecords
 pub mod LaneInside
 pub mod LaneTurns
+pub mod Nodes
+pub mod ProcRecords
+pub mod ProcInside
+pub mod ProcNames
+pub mod ProcCerts
+pub mod ProcEvents
+pub mod ProcAsks
+pub mod ProcTurns

@@ -5,7 +5,18 @@
 mod lane;
 mod lane_record;
 mod node;
+mod proc;
+mod proc_acting;
+mod proc_asking;
+mod proc_boxes;
+mod proc_inside;
+mod proc_judging;
+mod proc_names;
+mod proc_queueing;
+mod proc_record;
 
 pub use lane::lane_turn;
 pub use lane_record::RecordedLane;
 pub use node::{BoxSeat, InletSeat, Node};
+pub use proc::proc_turn;
+pub use proc_record::RecordedProc;
