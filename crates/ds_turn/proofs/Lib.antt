@@ -3,6 +3,5 @@ mod SeatPlaces
 mod ProcTables
 mod ProcSteps
 mod ProcAskings
-mod ProcRuns
 mod ProcCertificates
 mod ProcTurned

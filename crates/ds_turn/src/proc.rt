@@ -186,9 +186,10 @@ fn turn<K: Keeper, G: Gate, R: Wait>(
 /// message in hand that the node has a lane with its receiver and label, and that it is in range. It leaves these so.
 ///
 /// An event that touches no object is at the stamp after the process's own last one; where there is none left the turn waits
-/// forever, as a lock does. It also waits forever where a lock answers what no lock of the process's host does: a number that
-/// can't be the mapped category's in a table with the numbers of the usable names, a delegation longer than a register, or
-/// certificates for a message that has no lane or may not carry them.
+/// forever, as a lock does. It also waits forever where the desk answers what the process's own desk never does, since another call
+/// may take its lock at any time and no contract tells its state: a number that the mapped category can't have in a table with the
+/// numbers of the usable names, a delegation longer than a register, or certificates for a message that has no lane or may not
+/// carry them. So it does where an operation asks for nothing, or a step inside the process leaves names without a table; none does.
 ///
 /// # Errors
 ///

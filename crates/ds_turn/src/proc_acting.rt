@@ -61,7 +61,8 @@ fn delegated_turn<R: Wait>(
     requires later { process.old.proc.stamp < event.stamp }
     requires reg { reg < 8 }
     requires answer { IsDelegationAnswer reply }
-    ensures { process.new.proc ≡ stepped (delegated_process category reg host reply process.old.proc.process) process.old.proc.hand event process.old.proc }
+    ensures { process.new.proc ≡ stepped (delegated_process category reg host reply process.old.proc.process)
+        process.old.proc.hand event process.old.proc }
 {
     match reply {
         DeskReply::Made(bytes) => {
@@ -102,7 +103,8 @@ fn mapped_turn<R: Wait>(
     requires later { process.old.proc.stamp < event.stamp }
     requires answer { IsMappingAnswer reply }
     requires agreed { HasTable here.now process.old.proc.process.names }
-    ensures process { process.new.proc ≡ stepped (mapped_process category reply process.old.proc.process) process.old.proc.hand event process.old.proc }
+    ensures process { process.new.proc ≡ stepped (mapped_process category reply process.old.proc.process)
+        process.old.proc.hand event process.old.proc }
     ensures agreed { HasTable here.now process.new.proc.process.names }
 {
     match reply {

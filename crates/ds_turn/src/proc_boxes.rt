@@ -68,7 +68,8 @@ pub(crate) fn take_turn<R: Wait>(
     requires memory { HasMemory process.old }
     requires going { IsGoing process.old.proc.process }
     requires reg { reg < 8 }
-    ensures ok { IfOk result (λ made. MatchBool made (TakesFrom seat.now.slot reg slot process.old.proc process.new.proc) (process.new.proc ≡ process.old.proc)) }
+    ensures ok { IfOk result (λ made.
+        MatchBool made (TakesFrom seat.now.slot reg slot process.old.proc process.new.proc) (process.new.proc ≡ process.old.proc)) }
     ensures err { OnErr result (process.new.proc ≡ process.old.proc) }
 {
     let who = process.who();

@@ -25,7 +25,8 @@ pub(crate) fn enter_alone<R: Wait>(rt: &R, process: &mut RecordedProc)
 pub(crate) fn refuse_turn<R: Wait>(rt: &R, process: &mut RecordedProc, rule: Rule)
     requires memory { HasMemory process.old }
     requires going { IsGoing process.old.proc.process }
-    ensures { process.new.proc ≡ stepped (refused_process rule process.old.proc.process) process.old.proc.hand (lone_event process.old.proc) process.old.proc }
+    ensures { process.new.proc ≡ stepped (refused_process rule process.old.proc.process) process.old.proc.hand
+        (lone_event process.old.proc) process.old.proc }
 {
     let stamp = stamp_above(rt, process.stamp());
     let event = inner_event(process.allocator(), process.who(), stamp);

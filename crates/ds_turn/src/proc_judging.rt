@@ -9,7 +9,7 @@ ghost use Rattle.ds_actor.specs.declared.ask.ProcessAsk.TheVariants as asks;
 ghost use Rattle.ds_turn.specs.Nodes.{seen_of};
 ghost use Rattle.ds_turn.specs.ProcRecords.{HasMemory, IsGoing, stepped};
 ghost use Rattle.ds_turn.specs.ProcAsks.{IsAsking};
-ghost use Rattle.ds_turn.specs.ProcCerts.{Carries, IsNextCert};
+ghost use Rattle.ds_turn.specs.ProcCerts.{Carries, IsNextCert, number_at, send_act};
 ghost use Rattle.ds_turn.specs.ProcTurns.{Judges, judged_hand, judged_process};
 
 use crate::node::Node;
@@ -82,9 +82,28 @@ fn with_certs(mut message: Message, certs: CertBytes) -> Message
 /// The number of the lane at a place, where there is one.
 fn number_at(lanes: &[SharedLane], place: Option<usize>) -> Option<u32>
     requires { IfSome place (λ p. p < length lanes.now) }
+    ensures { result ≡ number_at lanes.now place }
 {
     let place = place?;
     Some(lanes[place].cert().lane)
+}
+
+/// What is asked of the desk about a message, whose lane is at this place, if it has one. `AllocError` where memory runs out.
+fn send_act(
+    lanes: &[SharedLane],
+    place: Option<usize>,
+    message: &Message,
+) -> Result<DeskAct, AllocError>
+    requires { IfSome place (λ p. p < length lanes.now) }
+    ensures { IfOk result (λ act. act ≡ send_act lanes.now place message.now) }
+{
+    Ok(DeskAct::JudgeSend {
+        lane: number_at(lanes, place),
+        to: message.to,
+        label: message.label.copy()?,
+        own: message.own.copy()?,
+        clear: message.clear.copy()?,
+    })
 }
 
 /// The desk judged a message: with its certificates it comes to the hand of the process, or it is refused. `AllocError` where
@@ -102,7 +121,8 @@ fn judged_turn<R: Wait>(
     requires later { process.old.proc.stamp < event.stamp }
     requires answer { IsSendAnswer reply }
     requires short { IsShort message.payload }
-    ensures ok { OnOk result (process.new.proc ≡ stepped (judged_process reply process.old.proc.process) (judged_hand message reply process.old.proc.hand) event process.old.proc) }
+    ensures ok { OnOk result (process.new.proc ≡ stepped (judged_process reply process.old.proc.process)
+        (judged_hand message reply process.old.proc.hand) event process.old.proc) }
     ensures holds { OnOk result (Carries place message reply) }
     ensures err { OnErr result (process.new.proc ≡ process.old.proc) }
 {
@@ -146,13 +166,7 @@ pub(crate) fn judge_turn<K: Keeper, R: Wait>(
     ensures fault { result ≡ Err TurnFault.KeeperFault → Rose (K.faults keeper.old) (K.faults keeper.new) }
 {
     let place = node.lane_to(&message.to, &message.label);
-    let act = DeskAct::JudgeSend {
-        lane: number_at(node.lanes.as_slice(), place),
-        to: message.to,
-        label: message.label.copy()?,
-        own: message.own.copy()?,
-        clear: message.clear.copy()?,
-    };
+    let act = send_act(node.lanes.as_slice(), place, &message)?;
     let (receipt, reply) = node
         .desk
         .act(rt, keeper, process.stamp(), process.who(), act)?;

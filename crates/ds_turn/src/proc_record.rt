@@ -182,7 +182,8 @@ impl RecordedProc {
         requires memory { HasMemory self.old }
         requires going { IsGoing self.old.proc.process }
         requires later { self.old.proc.stamp < event.stamp }
-        ensures { self.new.proc ≡ stepped (finished_process (Some notes.Sent) None self.old.proc.process) self.old.proc.hand event self.old.proc }
+        ensures { self.new.proc ≡ stepped (finished_process (Some notes.Sent) None self.old.proc.process)
+            self.old.proc.hand event self.old.proc }
     {
         sent(&mut self.process);
         self.enter(event);
@@ -193,7 +194,8 @@ impl RecordedProc {
         requires memory { HasMemory self.old }
         requires going { IsGoing self.old.proc.process }
         requires later { self.old.proc.stamp < event.stamp }
-        ensures { self.new.proc ≡ stepped (finished_process (Some (notes.Refused rule)) None self.old.proc.process) self.old.proc.hand event self.old.proc }
+        ensures { self.new.proc ≡ stepped (finished_process (Some (notes.Refused rule)) None self.old.proc.process)
+            self.old.proc.hand event self.old.proc }
     {
         refuse(&mut self.process, rule);
         self.enter(event);
@@ -206,7 +208,8 @@ impl RecordedProc {
         requires later { self.old.proc.stamp < event.stamp }
         requires reg { reg < 8 }
         requires short { IsShort message.payload }
-        ensures { self.new.proc ≡ stepped (took_process reg slot message self.old.proc.process) self.old.proc.hand event self.old.proc }
+        ensures { self.new.proc ≡ stepped (took_process reg slot message self.old.proc.process)
+            self.old.proc.hand event self.old.proc }
     {
         took(&mut self.process, reg, slot, message);
         self.enter(event);
@@ -227,7 +230,8 @@ impl RecordedProc {
         requires later { self.old.proc.stamp < event.stamp }
         requires reg { reg < 8 }
         requires short { IsShort bytes }
-        ensures { self.new.proc ≡ stepped (finished_process (Some (notes.Delegated category host)) (Some (reg, bytes)) self.old.proc.process) self.old.proc.hand event self.old.proc }
+        ensures { self.new.proc ≡ stepped (finished_process (Some (notes.Delegated category host)) (Some (reg, bytes)) self.old.proc.process)
+            self.old.proc.hand event self.old.proc }
     {
         delegated(&mut self.process, category, host, reg, bytes);
         self.enter(event);
@@ -238,7 +242,8 @@ impl RecordedProc {
         requires memory { HasMemory self.old }
         requires going { IsGoing self.old.proc.process }
         requires later { self.old.proc.stamp < event.stamp }
-        ensures { self.new.proc ≡ stepped (finished_process (Some notes.Imported) None self.old.proc.process) self.old.proc.hand event self.old.proc }
+        ensures { self.new.proc ≡ stepped (finished_process (Some notes.Imported) None self.old.proc.process)
+            self.old.proc.hand event self.old.proc }
     {
         imported(&mut self.process);
         self.enter(event);
@@ -250,7 +255,8 @@ impl RecordedProc {
         requires going { IsGoing self.old.proc.process }
         requires later { self.old.proc.stamp < event.stamp }
         requires joins { IsNumbered category number self.old.proc.process.names }
-        ensures { self.new.proc ≡ stepped (finished_process (Some (notes.Mapped category number)) None self.old.proc.process) self.old.proc.hand event self.old.proc }
+        ensures { self.new.proc ≡ stepped (finished_process (Some (notes.Mapped category number)) None self.old.proc.process)
+            self.old.proc.hand event self.old.proc }
     {
         mapped(&mut self.process, category, number);
         self.enter(event);
