@@ -5,3 +5,9 @@ mod ConnAsks
 mod ConnMade
 mod ConnPlain
 mod ConnVerdicts
+mod SeatPlaces
+mod ProcTables
+mod ProcSteps
+mod ProcAskings
+mod ProcCertificates
+mod ProcTurned

@@ -7,3 +7,11 @@ pub mod ConnInside
 pub mod ConnTurns
 pub mod ConnAsks
 pub mod ConnVerdicts
+pub mod Nodes
+pub mod ProcRecords
+pub mod ProcInside
+pub mod ProcNames
+pub mod ProcCerts
+pub mod ProcEvents
+pub mod ProcAsks
+pub mod ProcTurns

@@ -1,5 +1,5 @@
 -- Names of shared objects, and events as actors record them.
-use Rattle.std.specs.Prelude.{ℕ, List, [], Some}
+use Rattle.std.specs.Prelude.{ℕ, List, [], Option, Some}
 use Rattle.ds_script.specs.declared.actor.Actor.{Actor}
 use Rattle.ds_merge.specs.declared.kept.ObjectName.{ObjectName}
 use Rattle.ds_merge.specs.declared.kept.Kept.{Kept}
@@ -23,3 +23,14 @@ frame_event kept given = record { who = kept.who; stamp = kept.stamp; act = 2; b
 
 abbrev pub stamp_of : Recorded → ℕ
 stamp_of event = event.stamp
+
+-- the mailbox with this slot, and the lane with this number
+abbrev pub box_name : (host slot : ℕ) → ObjectName
+box_name host slot = record { host = host; kind = 2; id = slot }
+
+abbrev pub numbered_lane : (host number : ℕ) → ObjectName
+numbered_lane host number = record { host = host; kind = 3; id = number }
+
+-- a step of a process, by which that entry was made, if any, and that was handed out
+abbrev pub step_event : Actor → (stamp : ℕ) → Option Kept → (given : List ℕ) → Recorded
+step_event who stamp touched given = record { who = who; stamp = stamp; act = 1; body = []; touched = touched; given = given }

@@ -1,0 +1,94 @@
+-- What a turn of a process did, from what its parts did.
+use Rattle.std.proofs.Common.{◌≡◌, ℕ, ◌<◌, true, List, [], Option, Some, None, is_some, slice_get, sym, ap, ◌∙◌, subst}
+use Rattle.std.specs.Prelude.{position}
+use Rattle.ds_cert.specs.declared.lane.LaneCert.{LaneCert}
+use Rattle.ds_script.specs.Process.{Process as Numbered}
+use Rattle.ds_msg.specs.declared.message.Message.{Message}
+use Rattle.ds_model.specs.ProcessStep.{queue_at}
+use Rattle.ds_merge.specs.declared.recorded.Recorded.{Recorded}
+use Rattle.ds_share.specs.declared.receipt.Receipt.{Receipt}
+use Rattle.ds_share.specs.declared.desk_act.DeskReply.{DeskReply}
+use Rattle.ds_share.specs.declared.desk_act.DeskReply.TheVariants as replies
+use Rattle.ds_share.specs.Desks.{IsSendAnswer, SaysOfJudging, given_by_judge}
+use Rattle.ds_actor.specs.declared.ask.DeskRequest.{DeskRequest}
+use Rattle.ds_actor.specs.declared.ask.ProcessAsk.TheVariants as asks
+use Rattle.ds_actor.specs.Sites.{SitePlan, is_lane_for}
+use Rattle.ds_actor.proofs.Sites.{same_lane}
+use Rattle.ds_turn.specs.ProcRecords.{IsGoing, ProcRecord, stepped}
+use Rattle.ds_turn.specs.ProcEvents.{desk_event}
+use Rattle.ds_turn.specs.ProcAsks.{Asks, HandFits}
+use Rattle.ds_turn.specs.ProcCerts.{Carries}
+use Rattle.ds_turn.specs.ProcTurns.{Acts, ActsBy, Admits, Judges, Queues, acted_process, judged_hand, judged_process}
+
+-- a message out of the hand came to its lane
+pub queues : (site : SitePlan) (a r l b : ProcRecord) (m : Message) (place : ℕ) (cert : LaneCert) → r ≡ a → l ≡ record r { hand = None } → r.hand ≡ Some m
+    → slice_get site.lanes place ≡ Some cert → position (is_lane_for m.to m.label) site.lanes ≡ Some place → Admits cert.lane m l b → Queues site a b
+queues site a r l b m place cert same laid held there found did =
+    let is : l ≡ record a { hand = None } = laid ∙ (λ i. record (same i) { hand = None }) in
+    let now : Admits cert.lane m (record a { hand = None }) b = subst (λ (z : ProcRecord). Admits cert.lane m z b) is did in
+    record {
+      message = m;
+      place = place;
+      cert = cert;
+      stamp = now.stamp;
+      act = now.act;
+      hand = ap (λ (z : ProcRecord). z.hand) (sym same) ∙ held;
+      lane = there;
+      asked = λ here rows plan x y. ap (queue_at x m) (same_lane site rows plan m.to m.label ∙ found);
+      later = now.later;
+      came = now.came;
+      becomes = now.becomes;
+    }
+
+-- the desk did what it requests
+pub acts : (site : SitePlan) (a b : ProcRecord) (asked did : DeskRequest) (reg host : ℕ) → a.hand ≡ None → asked ≡ did → Asks site a (asks.PublicAct asked reg host)
+    → ActsBy site.here did reg host a b → Acts site a b
+acts site a b asked did reg host empty same ask by = record {
+  request = did;
+  reg = reg;
+  host = host;
+  reply = by.reply;
+  stamp = by.stamp;
+  act = by.act;
+  body = by.body;
+  given = by.given;
+  empty = empty;
+  asked = subst (λ (request : DeskRequest). Asks site a (asks.PublicAct request reg host)) same ask;
+  later = by.later;
+  says = by.says;
+  agreed = by.agreed;
+  becomes = by.becomes ∙ ap (λ (hand : Option Message). stepped (acted_process did reg host by.reply a.process) hand (desk_event a.who by.stamp by.act by.body by.given) a) empty;
+}
+
+-- what comes to the hand has a lane
+holds : (lanes : List LaneCert) (p : Numbered) (m : Message) (place : Option ℕ) (reply : DeskReply) → IsGoing p → place ≡ position (is_lane_for m.to m.label) lanes → Carries place m reply
+    → HandFits lanes p (judged_hand m reply None)
+holds lanes p m place (replies.Attached certs) going found carries = go place found carries.0
+  where
+    go : (o : Option ℕ) → o ≡ position (is_lane_for m.to m.label) lanes → is_some o ≡ true → HandFits lanes p (Some (record m { certs = certs }))
+    go (Some at) e is = record { place = at; lane = sym e; range = carries.1; going = going }
+    go None e is = absurd cc
+holds lanes p m place replies.Done going found carries = tt
+holds lanes p m place (replies.Made bytes) going found carries = tt
+holds lanes p m place (replies.Local number) going found carries = tt
+holds lanes p m place (replies.Found address) going found carries = tt
+holds lanes p m place (replies.Named label own clear) going found carries = tt
+holds lanes p m place (replies.Refused rule) going found carries = tt
+
+-- the desk judged a message
+pub judges : (site : SitePlan) (a b : ProcRecord) (m : Message) (place : Option ℕ) (reply : DeskReply) (r : Receipt) (event : Recorded) → a.hand ≡ None → IsGoing a.process
+    → Asks site a (asks.AsksJudgement m) → place ≡ position (is_lane_for m.to m.label) site.lanes → a.stamp < r.stamp → SaysOfJudging IsSendAnswer reply r.act r.body r.given
+    → event ≡ desk_event a.who r.stamp r.act r.body r.given → Carries place m reply → b ≡ stepped (judged_process reply a.process) (judged_hand m reply a.hand) event a → Judges site a b
+judges site a b m place reply r event empty going ask found later says made carries became =
+    let is : event ≡ desk_event a.who r.stamp 1 [] (given_by_judge reply) = made ∙ (λ i. desk_event a.who r.stamp (says.1.0 i) (says.1.1 i) (says.1.2 i)) in
+    record {
+      message = m;
+      reply = reply;
+      stamp = r.stamp;
+      empty = empty;
+      asked = ask;
+      later = later;
+      answer = says.0;
+      holds = holds site.lanes a.process m place reply going found carries;
+      becomes = became ∙ (λ i. stepped (judged_process reply a.process) (judged_hand m reply (empty i)) (is i) a);
+    }

@@ -1,0 +1,256 @@
+//! A process's public acts.
+
+ghost use Rattle.std.specs.Prelude.{◌≡◌, ◌≢◌, ◌≤◌, ◌<◌, ◌^◌, Err, None, IfErr, OnErr, OnOk};
+ghost use Rattle.ds_base.specs.Counts.{Rose};
+ghost use Rattle.ds_actor.specs.declared.ask.DeskRequest.TheVariants as requests;
+ghost use Rattle.ds_actor.specs.declared.ask.ProcessAsk.TheVariants as asks;
+ghost use Rattle.ds_actor.specs.Asking.{HasTable};
+ghost use Rattle.ds_turn.specs.Records.{desk_name};
+ghost use Rattle.ds_turn.specs.Nodes.{seen_of};
+ghost use Rattle.ds_turn.specs.ProcRecords.{HasMemory, IsGoing, stepped};
+ghost use Rattle.ds_turn.specs.ProcEvents.{desk_event};
+ghost use Rattle.ds_turn.specs.ProcAsks.{IsAsking, MayStep};
+ghost use Rattle.ds_turn.specs.ProcTurns.{Acts, ActsBy, IsDelegationAnswer, IsImportAnswer, IsMappingAnswer, delegated_process, imported_process, mapped_process};
+
+use crate::node::Node;
+use crate::proc_asking::wait_for;
+use crate::proc_names::has_number;
+use crate::proc_record::{RecordedProc, entry_event};
+use ds_actor::DeskRequest;
+use ds_base::Keeper;
+use ds_label::{Category, PubKey};
+use ds_merge::{ObjectName, Recorded};
+use ds_share::{DeskAct, DeskReply, Receipt, SharedDesk, TurnFault};
+use ds_wire::Bytes;
+use std::sync::Wait;
+
+/// Most bytes of a register.
+const REGISTER_LIMIT: usize = 16384;
+
+/// The name of a host's desk.
+pub(crate) fn desk_name(host: u32) -> ObjectName
+    ensures { result ≡ desk_name host }
+{
+    ObjectName {
+        host,
+        kind: 1,
+        id: 0,
+    }
+}
+
+/// The event of a process of which the desk did an act. It takes no memory.
+pub(crate) fn desk_event(process: &RecordedProc, receipt: Receipt) -> Recorded
+    ensures { result ≡ desk_event process.now.proc.who receipt.stamp receipt.act receipt.body receipt.given }
+{
+    let who = process.who();
+    entry_event(process.allocator(), desk_name(who.host), who, receipt)
+}
+
+/// A delegation was made, and its bytes go into a register, or it is refused. It takes no memory.
+fn delegated_turn<R: Wait>(
+    rt: &R,
+    process: &mut RecordedProc,
+    event: Recorded,
+    category: Category,
+    reg: u8,
+    host: u32,
+    reply: DeskReply,
+)
+    requires memory { HasMemory process.old }
+    requires going { IsGoing process.old.proc.process }
+    requires later { process.old.proc.stamp < event.stamp }
+    requires reg { reg < 8 }
+    requires answer { IsDelegationAnswer reply }
+    ensures { process.new.proc ≡ stepped (delegated_process category reg host reply process.old.proc.process)
+        process.old.proc.hand event process.old.proc }
+{
+    match reply {
+        DeskReply::Made(bytes) => {
+            wait_for(rt, bytes.len() <= REGISTER_LIMIT);
+            process.delegated(event, category, host, reg, bytes);
+        }
+        DeskReply::Refused(rule) => process.refused(event, rule),
+        _ => unreachable!(),
+    }
+}
+
+/// A certificate is kept, or refused. It takes no memory.
+fn imported_turn(process: &mut RecordedProc, event: Recorded, reply: DeskReply)
+    requires memory { HasMemory process.old }
+    requires going { IsGoing process.old.proc.process }
+    requires later { process.old.proc.stamp < event.stamp }
+    requires answer { IsImportAnswer reply }
+    ensures { process.new.proc ≡ stepped (imported_process reply process.old.proc.process) process.old.proc.hand event process.old.proc }
+{
+    match reply {
+        DeskReply::Done => process.imported(event),
+        DeskReply::Refused(rule) => process.refused(event, rule),
+        _ => unreachable!(),
+    }
+}
+
+/// A category has a number, and is usable, or is refused one. It takes no memory.
+fn mapped_turn<R: Wait>(
+    rt: &R,
+    here: &PubKey,
+    process: &mut RecordedProc,
+    event: Recorded,
+    category: Category,
+    reply: DeskReply,
+)
+    requires memory { HasMemory process.old }
+    requires going { IsGoing process.old.proc.process }
+    requires later { process.old.proc.stamp < event.stamp }
+    requires answer { IsMappingAnswer reply }
+    requires agreed { HasTable here.now process.old.proc.process.names }
+    ensures process { process.new.proc ≡ stepped (mapped_process category reply process.old.proc.process)
+        process.old.proc.hand event process.old.proc }
+    ensures agreed { HasTable here.now process.new.proc.process.names }
+{
+    match reply {
+        DeskReply::Local(number) => {
+            wait_for(
+                rt,
+                has_number(here, process.process().names(), &category, number),
+            );
+            process.mapped(event, category, number);
+        }
+        DeskReply::Refused(rule) => process.refused(event, rule),
+        _ => unreachable!(),
+    }
+}
+
+/// The desk makes a delegation of the process, or refuses it. The process is the same after a fault.
+fn delegate_turn<K: Keeper, R: Wait>(
+    rt: &R,
+    keeper: &mut K,
+    desk: &SharedDesk,
+    process: &mut RecordedProc,
+    category: Category,
+    to: PubKey,
+    from: u64,
+    until: u64,
+    reg: u8,
+    host: u32,
+) -> Result<(), TurnFault>
+    requires memory { HasMemory process.old }
+    requires going { IsGoing process.old.proc.process }
+    requires reg { reg < 8 }
+    requires agreed { HasTable desk.now process.old.proc.process.names }
+    ensures ok { OnOk result (ActsBy desk.now (requests.Delegating category to from until) reg host process.old.proc process.new.proc) }
+    ensures err { OnErr result (process.new.proc ≡ process.old.proc) }
+    ensures faults { K.faults keeper.old ≤ K.faults keeper.new }
+    ensures untouched { IfErr result (λ e. e ≢ TurnFault.KeeperFault → keeper.new ≡ keeper.old) }
+    ensures fault { result ≡ Err TurnFault.KeeperFault → Rose (K.faults keeper.old) (K.faults keeper.new) }
+{
+    let act = DeskAct::Delegate {
+        category,
+        to,
+        from,
+        until,
+    };
+    let (receipt, reply) = desk.act(rt, keeper, process.stamp(), process.who(), act)?;
+    let event = desk_event(process, receipt);
+    delegated_turn(rt, process, event, category, reg, host, reply);
+    Ok(())
+}
+
+/// The desk keeps the certificate that these bytes of the process spell, or refuses it. The process is the same after a fault.
+fn import_turn<K: Keeper, R: Wait>(
+    rt: &R,
+    keeper: &mut K,
+    desk: &SharedDesk,
+    process: &mut RecordedProc,
+    cert: Bytes,
+    reg: u8,
+    host: u32,
+) -> Result<(), TurnFault>
+    requires memory { HasMemory process.old }
+    requires going { IsGoing process.old.proc.process }
+    requires agreed { HasTable desk.now process.old.proc.process.names }
+    ensures ok { OnOk result (ActsBy desk.now (requests.Importing cert) reg host process.old.proc process.new.proc) }
+    ensures err { OnErr result (process.new.proc ≡ process.old.proc) }
+    ensures faults { K.faults keeper.old ≤ K.faults keeper.new }
+    ensures untouched { IfErr result (λ e. e ≢ TurnFault.KeeperFault → keeper.new ≡ keeper.old) }
+    ensures fault { result ≡ Err TurnFault.KeeperFault → Rose (K.faults keeper.old) (K.faults keeper.new) }
+{
+    let act = DeskAct::Import { cert };
+    let (receipt, reply) = desk.act(rt, keeper, process.stamp(), process.who(), act)?;
+    let event = desk_event(process, receipt);
+    imported_turn(process, event, reply);
+    Ok(())
+}
+
+/// The desk gives a category a number for the process, or refuses one. The process is the same after a fault.
+fn map_turn<K: Keeper, R: Wait>(
+    rt: &R,
+    keeper: &mut K,
+    desk: &SharedDesk,
+    process: &mut RecordedProc,
+    category: Category,
+    reg: u8,
+    host: u32,
+) -> Result<(), TurnFault>
+    requires memory { HasMemory process.old }
+    requires going { IsGoing process.old.proc.process }
+    requires range { category.number < 2 ^ 62 }
+    requires agreed { HasTable desk.now process.old.proc.process.names }
+    ensures ok { OnOk result (ActsBy desk.now (requests.Mapping category) reg host process.old.proc process.new.proc) }
+    ensures err { OnErr result (process.new.proc ≡ process.old.proc) }
+    ensures faults { K.faults keeper.old ≤ K.faults keeper.new }
+    ensures untouched { IfErr result (λ e. e ≢ TurnFault.KeeperFault → keeper.new ≡ keeper.old) }
+    ensures fault { result ≡ Err TurnFault.KeeperFault → Rose (K.faults keeper.old) (K.faults keeper.new) }
+{
+    let act = DeskAct::MapForeign { name: category };
+    let (receipt, reply) = desk.act(rt, keeper, process.stamp(), process.who(), act)?;
+    let event = desk_event(process, receipt);
+    mapped_turn(rt, desk.here(), process, event, category, reply);
+    Ok(())
+}
+
+/// A turn of a process that asks for a public act: the desk does it, or a rule refuses it. The process is the same after a fault.
+///
+/// # Errors
+///
+/// - `KeeperFault` where the keeper failed to raise the mark of the host's identity key: its count of faults rose.
+/// - `NoMemory` where memory runs out. The keeper is as it was.
+pub(crate) fn act_turn<K: Keeper, R: Wait>(
+    rt: &R,
+    keeper: &mut K,
+    node: &Node,
+    process: &mut RecordedProc,
+    request: DeskRequest,
+    reg: u8,
+    host: u32,
+) -> Result<(), TurnFault>
+    requires may { MayStep (seen_of node.now) process.old.proc }
+    requires empty { process.old.proc.hand ≡ None }
+    requires asks { IsAsking (seen_of node.now) process.old (asks.PublicAct request reg host) }
+    ensures ok { OnOk result (Acts (seen_of node.now) process.old.proc process.new.proc) }
+    ensures err { OnErr result (process.new.proc ≡ process.old.proc) }
+    ensures faults { K.faults keeper.old ≤ K.faults keeper.new }
+    ensures untouched { IfErr result (λ e. e ≢ TurnFault.KeeperFault → keeper.new ≡ keeper.old) }
+    ensures fault { result ≡ Err TurnFault.KeeperFault → Rose (K.faults keeper.old) (K.faults keeper.new) }
+{
+    match request {
+        DeskRequest::Delegating {
+            category,
+            to,
+            from,
+            until,
+        } => {
+            delegate_turn(
+                rt, keeper, &node.desk, process, category, to, from, until, reg, host,
+            )?;
+            Ok(())
+        }
+        DeskRequest::Importing(cert) => {
+            import_turn(rt, keeper, &node.desk, process, cert, reg, host)?;
+            Ok(())
+        }
+        DeskRequest::Mapping(category) => {
+            map_turn(rt, keeper, &node.desk, process, category, reg, host)?;
+            Ok(())
+        }
+    }
+}
