@@ -27,6 +27,10 @@ NamesAreOnes = (plan : Plan) (name : ObjectName) (object : Object) → object_of
 abbrev pub ObjectsHaveNames : Type 0
 ObjectsHaveNames = (plan : Plan) (h : ℕ) (object : Object) → IsNamed (host_plan plan h) object → object_of plan (name_of (host_plan plan h) h object) ≡ Some object
 
+-- An event enters on its actor's own host alone, under the actor's name and at the event's stamp.
+abbrev pub EntersOwn : Type 0
+EntersOwn = (s : Scheme) (plan : Plan) (w : World) (r : Recorded) (k : Kept) → entry s plan w r ≡ Some k → (k.object.host ≡ r.who.host) × (k.who ≡ r.who) × (k.stamp ≡ r.stamp)
+
 -- an entry as it is kept, and the change that it spells
 pub record Line : Type 0 where
   pub kept : Kept

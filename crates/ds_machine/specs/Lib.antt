@@ -3,3 +3,5 @@ pub mod Names
 pub mod Spelled
 pub mod Machine
 pub mod Laws
+pub mod Turns
+pub mod Examples

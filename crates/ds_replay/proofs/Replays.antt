@@ -137,7 +137,7 @@ elsewhere g h object (Some t) n own = cond_case (λ es. es ≡ []) (eqb t.host h
     first true b q = refl
     first false b q = q
 
-own_host : (g : ℕ) (a : Access) (t : Touch) → touch_of g a ≡ Some t → t.host ≡ g
+pub own_host : (g : ℕ) (a : Access) (t : Touch) → touch_of g a ≡ Some t → t.host ≡ g
 own_host g NoAccess t e = absurd (none_some t e)
 own_host g (InDesk entry) t e = ap (λ (u : Touch). u.host) (sym (some_is (record { host = g; object = TheDesk; change = OfDesk entry }) t e))
 own_host g (InBox b entry) t e = ap (λ (u : Touch). u.host) (sym (some_is (record { host = g; object = MailboxAt b; change = OfMailbox entry }) t e))

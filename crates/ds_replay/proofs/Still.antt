@@ -240,7 +240,7 @@ module _ (s : Scheme) (plan : HostPlan) (x : Host) (asks : Conn → ConnAsk) (fa
 
 -- WHOLE WORLDS
 
-when_here : (g : ℕ) (t : Access) → (if eqb g g then t else NoAccess) ≡ t
+pub when_here : (g : ℕ) (t : Access) → (if eqb g g then t else NoAccess) ≡ t
 when_here g t = ap (λ b. if b then t else NoAccess) (eq-eqb g g refl)
 
 untouched : (h : ℕ) (t : Access) → touch_of h t ≡ None → t ≡ NoAccess
