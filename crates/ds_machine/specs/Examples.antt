@@ -32,7 +32,8 @@ answered s plan w (r ∷ es) = answer s plan w r ∷ answered s plan (after s pl
 
 -- these are what was recorded
 abbrev pub IsRecorded : Scheme → Plan → World → List Recorded → Type 0
-IsRecorded s plan w es = (moved s plan w es ≡ map (λ r. true) es) × (entered s plan w es ≡ map (λ r. r.touched) es) × (answered s plan w es ≡ map (λ r. r.given) es)
+IsRecorded s plan w es = (moved s plan w es ≡ map (λ r. true) es) × (entered s plan w es ≡ map (λ r. r.touched) es)
+    × (answered s plan w es ≡ map (λ r. r.given) es)
 
 -- actors, and the names of objects
 
@@ -162,5 +163,6 @@ EntersRefusals = IsRecorded empty_scheme near_and_far acting
 -- host; a moment of one byte. Nor do bytes that aren't the next ones of the stream.
 abbrev pub MovesNothing : Type 0
 MovesNothing = map (moves toy_scheme two_hosts before_letter)
-    (alone (proc 1 0) 1 2 [] ∷ alone (proc 1 0) 1 1 (0 ∷ []) ∷ alone (worker 1 0) 1 2 [] ∷ alone (conn 1 0) 1 3 (255 ∷ []) ∷ alone (clock 0) 1 6 (5 ∷ []) ∷ alone (conn 0 0) 1 3 (254 ∷ []) ∷ [])
+    (alone (proc 1 0) 1 2 [] ∷ alone (proc 1 0) 1 1 (0 ∷ []) ∷ alone (worker 1 0) 1 2 [] ∷ alone (conn 1 0) 1 3 (255 ∷ [])
+    ∷ alone (clock 0) 1 6 (5 ∷ []) ∷ alone (conn 0 0) 1 3 (254 ∷ []) ∷ [])
     ≡ false ∷ false ∷ false ∷ false ∷ false ∷ false ∷ []

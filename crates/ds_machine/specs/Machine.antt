@@ -31,7 +31,12 @@ frame_of h (suc l) = Some (Frame h l)
 
 -- an event of a connection
 abbrev pub conn_event : (conn act : ℕ) → (body : List ℕ) → Option Event
-conn_event k act body = if act == 3 then Some (Arrive k (length body)) else if act == 4 then if_act act 4 body (Some (Accept k)) else if_act act 5 body (Some (Deliver k))
+conn_event k act body =
+    if act == 3
+    then Some (Arrive k (length body))
+    else if act == 4
+    then if_act act 4 body (Some (Accept k))
+    else if_act act 5 body (Some (Deliver k))
 
 -- an event of an actor, by its kind, host and index; none where the act isn't one of its kind, or the bytes aren't the act's
 abbrev pub event_by : Plan → ActorKind → (host index act : ℕ) → (body : List ℕ) → Option Event
@@ -62,7 +67,8 @@ count_of (Some y) = y.count
 
 -- bytes that arrive are the next ones of the connection's stream
 abbrev pub are_next : Plan → World → Event → (body : List ℕ) → Bool
-are_next plan w (Arrive k n) body = bytes_eq (take n (drop (count_of (slice_get w.conns k)) (stream_at w plan k (slice_get w.conns k)))) body
+are_next plan w (Arrive k n) body =
+    bytes_eq (take n (drop (count_of (slice_get w.conns k)) (stream_at w plan k (slice_get w.conns k)))) body
 are_next plan w (Step h p) body = true
 are_next plan w (Frame h l) body = true
 are_next plan w (Accept k) body = true
@@ -110,8 +116,10 @@ given_to_conn s plan asks x (Some y) = given_to_conn_ask s plan x (asks y)
 abbrev pub given_at : Scheme → Plan → World → Event → Host → List ℕ
 given_at s plan w (Step h p) x = given_to_proc s (host_plan plan h) x p (slice_get x.procs p)
 given_at s plan w (Frame h l) x = given_to_worker s (host_plan plan h) x l (slice_get x.workers l)
-given_at s plan w (Accept k) x = given_to_conn s (receiving_host plan k) (λ conn. accept s (receiving_host plan k) conn (arrived w (conn_plan plan k).source conn)) x (slice_get w.conns k)
-given_at s plan w (Deliver k) x = given_to_conn s (receiving_host plan k) (λ conn. deliver s (receiving_host plan k) conn (arrived w (conn_plan plan k).source conn)) x (slice_get w.conns k)
+given_at s plan w (Accept k) x = given_to_conn s (receiving_host plan k)
+    (λ conn. accept s (receiving_host plan k) conn (arrived w (conn_plan plan k).source conn)) x (slice_get w.conns k)
+given_at s plan w (Deliver k) x = given_to_conn s (receiving_host plan k)
+    (λ conn. deliver s (receiving_host plan k) conn (arrived w (conn_plan plan k).source conn)) x (slice_get w.conns k)
 given_at s plan w (Arrive k n) x = []
 given_at s plan w (Tick h t) x = []
 given_at s plan w (Inject k bytes) x = []

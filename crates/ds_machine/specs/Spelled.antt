@@ -39,7 +39,13 @@ use Rattle.ds_machine.specs.Names.{name_of}
 
 -- a message in a mailbox, in the numbers of the host with this key and table
 abbrev pub local_mail : PubKey → (rows : List Category) → Mail Category → LocalMessage
-local_mail here rows m = record { from = m.from; label = numbered here rows m.label; own = numbered here rows m.own; clear = numbered here rows m.clear; payload = m.payload }
+local_mail here rows m = record {
+  from = m.from;
+  label = numbered here rows m.label;
+  own = numbered here rows m.own;
+  clear = numbered here rows m.clear;
+  payload = m.payload;
+}
 
 -- an entry of a mailbox in these numbers
 abbrev pub local_entry : PubKey → (rows : List Category) → BoxEntry (Mail Category) → BoxEntry LocalMessage
@@ -101,7 +107,8 @@ given_to_ask s plan x (Put b m next) = []
 given_to_ask s plan x (Admit l m next) = []
 given_to_ask s plan x (TakeFrom b reg slot) = given_mail plan.key x.desk.rows (oldest_in (slice_get x.boxes b))
 given_to_ask s plan x (PublicAct act reg host) = given_by_desk (answer_of (reply_of s plan x.desk (act_entry s plan x.desk act)))
-given_to_ask s plan x (AsksJudgement m) = given_by_judge (judged (model.judged s plan x.desk m) (Attached (model.attached s plan x.desk m)))
+given_to_ask s plan x (AsksJudgement m) =
+    given_by_judge (judged (model.judged s plan x.desk m) (Attached (model.attached s plan x.desk m)))
 
 -- the judgement of a hand is that of its first message: all messages of a lane have one receiver and one label
 abbrev pub given_to_hand : Scheme → Desk → List Waiting → List ℕ
@@ -119,6 +126,7 @@ abbrev pub given_to_conn_ask : Scheme → HostPlan → Host → ConnAsk → List
 given_to_conn_ask s plan x ConnWaits = []
 given_to_conn_ask s plan x (ConnInternal next) = []
 given_to_conn_ask s plan x (AsksInlet i number fresh stale) = []
-given_to_conn_ask s plan x (AsksArrival lane m rest) = given_by_judge (judged (receiver_rule s x.desk.store x.desk.rows x.desk.moment plan.key lane m)
+given_to_conn_ask s plan x (AsksArrival lane m rest) =
+    given_by_judge (judged (receiver_rule s x.desk.store x.desk.rows x.desk.moment plan.key lane m)
     (Named (numbered plan.key x.desk.rows m.label) (numbered plan.key x.desk.rows m.own) (numbered plan.key x.desk.rows m.clear)))
 given_to_conn_ask s plan x (PutsPassed b m next) = []

@@ -33,7 +33,8 @@ LiftsAreRecorded = (s : Scheme) (plan : Plan) (w : World) (h l stamp : ℕ) (x :
 
 -- One with messages in hand asks the desk, and records its look and its judgement of the first of them, wherever the receiver is reached.
 abbrev pub ChecksAreRecorded : Type 0
-ChecksAreRecorded = (s : Scheme) (plan : Plan) (w : World) (h l stamp : ℕ) (x : Host) (e : Worker) (m : Waiting) (hand : List Waiting) (address : List ℕ) →
+ChecksAreRecorded = (s : Scheme) (plan : Plan) (w : World) (h l stamp : ℕ) (x : Host) (e : Worker) (m : Waiting)
+    (hand : List Waiting) (address : List ℕ) →
     slice_get w.hosts h ≡ Some x → slice_get x.workers l ≡ Some e → e.hand ≡ m ∷ hand →
     Tells s plan w (judge_event (worker_of h l) stamp (judged (frame_rule s x.desk m) (Found address)))
 
@@ -44,4 +45,5 @@ pub record IsFellow (m n : Waiting) : Type 0 where
 
 -- Of messages with one receiver and one label, as those of a lane are, one judgement is that of each.
 abbrev pub JudgedAsOne : Type 0
-JudgedAsOne = (s : Scheme) (d : Desk) (m : Waiting) (hand : List Waiting) → All (IsFellow m) hand → rechecked s d hand ≡ map (λ n. frame_rule s d m) hand
+JudgedAsOne = (s : Scheme) (d : Desk) (m : Waiting) (hand : List Waiting) → All (IsFellow m) hand →
+    rechecked s d hand ≡ map (λ n. frame_rule s d m) hand

@@ -2,7 +2,8 @@
 //! bytes; and that a merged list by which the walk matches is a run. The functions do nothing: their contracts are the laws.
 #![tactic(auto)]
 
-ghost use Rattle.ds_machine.specs.Laws.{NamesAreOnes, ObjectsHaveNames, EntersOwn, RunsAreRuns, LinesReplay, HistoriesAreLines, StepsAgree, HistoriesReplay};
+ghost use Rattle.ds_machine.specs.Laws.{NamesAreOnes, ObjectsHaveNames, EntersOwn, RunsAreRuns};
+ghost use Rattle.ds_machine.specs.Laws.{LinesReplay, HistoriesAreLines, StepsAgree, HistoriesReplay};
 ghost use Rattle.ds_machine.specs.Turns.{LiftsAreRecorded, ChecksAreRecorded, JudgedAsOne};
 ghost use Rattle.ds_machine.specs.Examples.{FindsFull, CarriesALetter, CountsFrames, EntersRefusals, MovesNothing};
 

@@ -45,7 +45,8 @@ at_inlet h i change = Some (record { host = h; object = InletAt i; change = chan
 
 -- Of two sends to a mailbox for one message the second one finds it full, and enters that. The sender is told nothing of either.
 abbrev pub FindsFull : Type 0
-FindsFull = (touches empty_scheme one_host sending_twice (steps 4) ≡ None ∷ in_box 0 0 (OfMailbox (PutIn a_mail)) ∷ in_box 0 0 (OfMailbox (FoundFull a_mail)) ∷ None ∷ [])
+FindsFull = (touches empty_scheme one_host sending_twice (steps 4) ≡ None ∷ in_box 0 0 (OfMailbox (PutIn a_mail))
+    ∷ in_box 0 0 (OfMailbox (FoundFull a_mail)) ∷ None ∷ [])
     × (answers empty_scheme one_host sending_twice (steps 4) ≡ Nothing ∷ Nothing ∷ Nothing ∷ Nothing ∷ [])
 
 -- what the mailbox keeps of the message of the other exporter
@@ -55,7 +56,8 @@ far_mail = record { from = other_key; label = []; own = []; clear = []; payload 
 -- A frame that two connections read is fresh on the first and stale on the second; its message is judged by the desk, and then put.
 abbrev pub CountsFrames : Type 0
 CountsFrames = (touches reading_scheme two_links reading accepts
-    ≡ None ∷ at_inlet 0 0 (OfInlet (Fresh 0)) ∷ in_desk 0 (OfDesk Looked) ∷ in_box 0 0 (OfMailbox (PutIn far_mail)) ∷ None ∷ at_inlet 0 0 (OfInlet (Stale 0)) ∷ [])
+    ≡ None ∷ at_inlet 0 0 (OfInlet (Fresh 0)) ∷ in_desk 0 (OfDesk Looked) ∷ in_box 0 0 (OfMailbox (PutIn far_mail)) ∷ None
+    ∷ at_inlet 0 0 (OfInlet (Stale 0)) ∷ [])
     × (answers reading_scheme two_links reading accepts ≡ Nothing ∷ IsFresh true ∷ Ruled None ∷ Nothing ∷ Nothing ∷ IsFresh false ∷ [])
 
 -- the letter on its lane
@@ -67,7 +69,8 @@ abbrev pub CarriesALetter : Type 0
 CarriesALetter = (touches toy_scheme two_hosts before_letter letter_events
     ≡ None ∷ None ∷ None
     ∷ in_desk 1 (OfDesk Looked)
-    ∷ on_lane 1 0 (OfLane (Queued the_letter)) ∷ on_lane 1 0 (OfLane (Lifted 1)) ∷ in_desk 1 (OfDesk Looked) ∷ None ∷ at_inlet 0 0 (OfInlet (Fresh 0)) ∷ in_desk 0 (OfDesk Looked) ∷ in_box 0 0 (OfMailbox (PutIn far_mail))
+    ∷ on_lane 1 0 (OfLane (Queued the_letter)) ∷ on_lane 1 0 (OfLane (Lifted 1)) ∷ in_desk 1 (OfDesk Looked) ∷ None
+    ∷ at_inlet 0 0 (OfInlet (Fresh 0)) ∷ in_desk 0 (OfDesk Looked) ∷ in_box 0 0 (OfMailbox (PutIn far_mail))
     ∷ in_box 0 0 (OfMailbox TookOut)
     ∷ None
     ∷ [])
@@ -87,6 +90,7 @@ acting = one_process (ops.Map (far Secrecy 0) ∷ ops.Import 0 ∷ ops.Delegate 
 -- Both refusals are entered. The clock's tick is entered where it raises the moment. A take from an empty mailbox enters nothing.
 abbrev pub EntersRefusals : Type 0
 EntersRefusals = (touches empty_scheme one_host acting (Step 0 0 ∷ Step 0 0 ∷ Step 0 0 ∷ Step 0 0 ∷ Tick 0 5 ∷ Tick 0 5 ∷ [])
-    ≡ in_desk 0 (OfDesk (Mapped (far Secrecy 0))) ∷ in_desk 0 (OfDesk (Denied BadCert)) ∷ in_desk 0 (OfDesk (Denied KeySpent)) ∷ None ∷ in_desk 0 (OfDesk (Ticked 5)) ∷ None ∷ [])
+    ≡ in_desk 0 (OfDesk (Mapped (far Secrecy 0))) ∷ in_desk 0 (OfDesk (Denied BadCert)) ∷ in_desk 0 (OfDesk (Denied KeySpent))
+    ∷ None ∷ in_desk 0 (OfDesk (Ticked 5)) ∷ None ∷ [])
     × (answers empty_scheme one_host acting (Step 0 0 ∷ Step 0 0 ∷ Step 0 0 ∷ Step 0 0 ∷ Tick 0 5 ∷ Tick 0 5 ∷ [])
     ≡ Replied (Local (2 ^ 63)) ∷ Replied (Refuse BadCert) ∷ Replied (Refuse KeySpent) ∷ Oldest None ∷ Nothing ∷ Nothing ∷ [])

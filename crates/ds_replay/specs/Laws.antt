@@ -17,12 +17,14 @@ use Rattle.ds_replay.specs.Told.{answer}
 -- Each object of each host is after the step what the event's change makes of it, where the event touched it, and else as it was.
 abbrev pub OneObject : Type 0
 OneObject = (s : Scheme) (plan : Plan) (w : World) (e : Event) (h : ℕ) (object : Object) →
-    replay (after_change s (host_plan plan h) object) (state_at w h object) (change_of h object (touch s plan w e)) ≡ Some (state_at (step s plan w e) h object)
+    replay (after_change s (host_plan plan h) object) (state_at w h object) (change_of h object (touch s plan w e))
+    ≡ Some (state_at (step s plan w e) h object)
 
 -- Along a run each object is the replay of the changes that the events made of it.
 abbrev pub RunsReplay : Type 0
 RunsReplay = (s : Scheme) (plan : Plan) (w : World) (events : List Event) (h : ℕ) (object : Object) →
-    replay (after_change s (host_plan plan h) object) (state_at w h object) (changes_of s plan w events h object) ≡ Some (state_at (run s plan w events) h object)
+    replay (after_change s (host_plan plan h) object) (state_at w h object) (changes_of s plan w events h object)
+    ≡ Some (state_at (run s plan w events) h object)
 
 -- An event touches an object of its own host.
 abbrev pub TouchesOwnHost : Type 0
@@ -47,7 +49,8 @@ pub record HasObjects (plan : HostPlan) (x : Host) : Type 0 where
   pub queues : length plan.lanes ≤ length x.queues
   pub inlets : length plan.inlets ≤ length x.inlets
 
--- And these are all, where hosts have what their plans say: an event that touches nothing, and isn't its actor's own affair, changes nothing.
+-- And these are all, where hosts have what their plans say: an event that touches nothing, and isn't its actor's own affair, changes
+-- nothing.
 -- So a judgement, a refusal, a full mailbox, a full lane and a stale number are entered too, though they leave the object as it was.
 abbrev pub ElseIsStill : Type 0
 ElseIsStill = (s : Scheme) (plan : Plan) (w : World) (e : Event) →
@@ -57,18 +60,22 @@ ElseIsStill = (s : Scheme) (plan : Plan) (w : World) (e : Event) →
 -- A process becomes what it asked and the answer alone say.
 abbrev pub ProcessesLearn : Type 0
 ProcessesLearn = (s : Scheme) (plan : Plan) (w : World) (h p : ℕ) →
-    proc_at (step s plan w (Step h p)) h p ≡ option_map (λ y. proc_after_reply (ask (host_plan plan h) p y) (answer s plan w (Step h p)) y) (proc_at w h p)
+    proc_at (step s plan w (Step h p)) h p
+    ≡ option_map (λ y. proc_after_reply (ask (host_plan plan h) p y) (answer s plan w (Step h p)) y) (proc_at w h p)
 
 -- So does a lane's worker.
 abbrev pub WorkersLearn : Type 0
 WorkersLearn = (s : Scheme) (plan : Plan) (w : World) (h l : ℕ) →
     worker_at (slice_get (step s plan w (Frame h l)).hosts h) l
-    ≡ option_map (λ e. worker_after_reply s (host_plan plan h) l (lane_ask s (lane_plan (host_plan plan h) l) e) (answer s plan w (Frame h l)) e) (worker_at (slice_get w.hosts h) l)
+    ≡ option_map (λ e. worker_after_reply s (host_plan plan h) l (lane_ask s (lane_plan (host_plan plan h) l) e)
+    (answer s plan w (Frame h l)) e) (worker_at (slice_get w.hosts h) l)
 
 -- So does a connection that leads to a host.
 abbrev pub ConnectionsLearn : Type 0
 ConnectionsLearn = (s : Scheme) (plan : Plan) (w : World) (k : ℕ) (x : Host) → slice_get w.hosts (conn_plan plan k).host ≡ Some x →
     (slice_get (step s plan w (Accept k)).conns k
-    ≡ option_map (λ y. conn_after_reply (accept s (receiving_host plan k) y (arrived w (conn_plan plan k).source y)) (answer s plan w (Accept k)) y) (slice_get w.conns k))
+    ≡ option_map (λ y. conn_after_reply (accept s (receiving_host plan k) y (arrived w (conn_plan plan k).source y))
+    (answer s plan w (Accept k)) y) (slice_get w.conns k))
     × (slice_get (step s plan w (Deliver k)).conns k
-    ≡ option_map (λ y. conn_after_reply (deliver s (receiving_host plan k) y (arrived w (conn_plan plan k).source y)) (answer s plan w (Deliver k)) y) (slice_get w.conns k))
+    ≡ option_map (λ y. conn_after_reply (deliver s (receiving_host plan k) y (arrived w (conn_plan plan k).source y))
+    (answer s plan w (Deliver k)) y) (slice_get w.conns k))

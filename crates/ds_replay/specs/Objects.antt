@@ -33,7 +33,8 @@ pub data Change : Type 0 where
   OfLane : LaneEntry Waiting → Change
   OfInlet : InletEntry → Change
 
--- what an object is: nothing, where there is no such object; the desk; what waits in a mailbox; what waits on a lane; an inlet's last number
+-- what an object is: nothing, where there is no such object; the desk; what waits in a mailbox; what waits on a lane; an inlet's last
+-- number
 pub data ObjectState : Type 0 where
   Missing : ObjectState
   DeskState : Desk → ObjectState
@@ -44,7 +45,8 @@ pub data ObjectState : Type 0 where
 -- the object after a change, by the replay step of its kind; none where the change is of another kind, or may not stand
 abbrev pub after_change : Scheme → HostPlan → Object → ObjectState → Change → Option ObjectState
 after_change s plan TheDesk (DeskState d) (OfDesk entry) = option_map DeskState (desk_step s plan d entry)
-after_change s plan (MailboxAt b) (MailboxState waiting) (OfMailbox entry) = option_map MailboxState (box_step (box_plan plan b).room waiting entry)
+after_change s plan (MailboxAt b) (MailboxState waiting) (OfMailbox entry) =
+    option_map MailboxState (box_step (box_plan plan b).room waiting entry)
 after_change s plan (LaneAt l) (LaneState waiting) (OfLane entry) = option_map LaneState (lane_step (lane_plan plan l).room waiting entry)
 after_change s plan (InletAt i) (InletState last) (OfInlet entry) = option_map InletState (inlet_step last entry)
 after_change _ _ _ _ _ = None

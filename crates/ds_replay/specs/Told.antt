@@ -30,8 +30,10 @@ answer_to_conn s plan asks x (Some y) = conn_reply s plan x (asks y)
 abbrev pub answer_at : Scheme → Plan → World → Event → Host → ActorReply
 answer_at s plan w (Step h p) x = answer_to_proc s (host_plan plan h) x p (slice_get x.procs p)
 answer_at s plan w (Frame h l) x = answer_to_worker s (host_plan plan h) x l (slice_get x.workers l)
-answer_at s plan w (Accept k) x = answer_to_conn s (receiving_host plan k) (λ conn. accept s (receiving_host plan k) conn (arrived w (conn_plan plan k).source conn)) x (slice_get w.conns k)
-answer_at s plan w (Deliver k) x = answer_to_conn s (receiving_host plan k) (λ conn. deliver s (receiving_host plan k) conn (arrived w (conn_plan plan k).source conn)) x (slice_get w.conns k)
+answer_at s plan w (Accept k) x = answer_to_conn s (receiving_host plan k)
+    (λ conn. accept s (receiving_host plan k) conn (arrived w (conn_plan plan k).source conn)) x (slice_get w.conns k)
+answer_at s plan w (Deliver k) x = answer_to_conn s (receiving_host plan k)
+    (λ conn. deliver s (receiving_host plan k) conn (arrived w (conn_plan plan k).source conn)) x (slice_get w.conns k)
 answer_at s plan w (Arrive k n) x = Nothing
 answer_at s plan w (Tick h t) x = Nothing
 answer_at s plan w (Inject k bytes) x = Nothing

@@ -85,8 +85,10 @@ abbrev pub is_inner : Scheme → Plan → World → Event → Bool
 is_inner s plan w (Step h p) = inside_proc (host_plan plan h) p (proc_at w h p)
 is_inner s plan w (Frame h l) = false
 is_inner s plan w (Arrive k n) = true
-is_inner s plan w (Accept k) = inside_conn (λ conn. accept s (receiving_host plan k) conn (arrived w (conn_plan plan k).source conn)) (slice_get w.conns k)
-is_inner s plan w (Deliver k) = inside_conn (λ conn. deliver s (receiving_host plan k) conn (arrived w (conn_plan plan k).source conn)) (slice_get w.conns k)
+is_inner s plan w (Accept k) =
+    inside_conn (λ conn. accept s (receiving_host plan k) conn (arrived w (conn_plan plan k).source conn)) (slice_get w.conns k)
+is_inner s plan w (Deliver k) =
+    inside_conn (λ conn. deliver s (receiving_host plan k) conn (arrived w (conn_plan plan k).source conn)) (slice_get w.conns k)
 is_inner s plan w (Tick h t) = false
 is_inner s plan w (Inject k bytes) = true
 is_inner s plan w (Copy k j from until) = true

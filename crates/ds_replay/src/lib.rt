@@ -2,7 +2,8 @@
 //! nothing: their contracts are the laws.
 #![tactic(auto)]
 
-ghost use Rattle.ds_replay.specs.Laws.{OneObject, RunsReplay, TouchesOwnHost, SlotsName, StillTouchesNothing, InnerTouchesNothing, ElseIsStill};
+ghost use Rattle.ds_replay.specs.Laws.{OneObject, RunsReplay, TouchesOwnHost, SlotsName};
+ghost use Rattle.ds_replay.specs.Laws.{StillTouchesNothing, InnerTouchesNothing, ElseIsStill};
 ghost use Rattle.ds_replay.specs.Laws.{ProcessesLearn, WorkersLearn, ConnectionsLearn};
 ghost use Rattle.ds_replay.specs.Examples.{FindsFull, CountsFrames, CarriesALetter, EntersRefusals};
 
