@@ -1,0 +1,5 @@
+pub mod Naming
+pub mod Lines
+pub mod Histories
+pub mod Owning
+pub mod Turning
