@@ -1,24 +1,29 @@
 -- What a turn of a process did, from what its parts did.
-use Rattle.std.proofs.Common.{◌≡◌, ℕ, ◌<◌, true, List, [], Option, Some, None, is_some, slice_get, sym, ap, ◌∙◌, subst}
-use Rattle.std.specs.Prelude.{position}
+use Rattle.std.proofs.Common.{◌≡◌, ℕ, ◌<◌, Bool, true, false, ◌&&◌, List, [], Option, Some, None, is_some, slice_get, refl, sym, ap, ◌∙◌, subst, arith}
+use Rattle.std.specs.Prelude.{◌^◌, nat_le, position}
+use Rattle.std.proofs.lemmas.Bool.Decides.{nat_tests}
+use Rattle.ds_label.specs.declared.category.PubKey.{PubKey}
 use Rattle.ds_cert.specs.declared.lane.LaneCert.{LaneCert}
 use Rattle.ds_script.specs.Process.{Process as Numbered}
 use Rattle.ds_msg.specs.declared.message.Message.{Message}
+use Rattle.ds_model.specs.Keys.{same_key}
 use Rattle.ds_model.specs.ProcessStep.{queue_at}
 use Rattle.ds_merge.specs.declared.recorded.Recorded.{Recorded}
 use Rattle.ds_share.specs.declared.receipt.Receipt.{Receipt}
 use Rattle.ds_share.specs.declared.desk_act.DeskReply.{DeskReply}
 use Rattle.ds_share.specs.declared.desk_act.DeskReply.TheVariants as replies
-use Rattle.ds_share.specs.Desks.{IsSendAnswer, SaysOfJudging, given_by_judge}
+use Rattle.ds_share.specs.Desks.{IsSendAnswer, MayAct, SaysOfJudging, given_by_judge}
 use Rattle.ds_actor.specs.declared.ask.DeskRequest.{DeskRequest}
+use Rattle.ds_actor.specs.declared.ask.DeskRequest.TheVariants as requests
 use Rattle.ds_actor.specs.declared.ask.ProcessAsk.TheVariants as asks
+use Rattle.ds_actor.specs.Asks.{IsAskInRange}
 use Rattle.ds_actor.specs.Sites.{SitePlan, is_lane_for}
 use Rattle.ds_actor.proofs.Sites.{same_lane}
 use Rattle.ds_turn.specs.ProcRecords.{IsGoing, ProcRecord, stepped}
 use Rattle.ds_turn.specs.ProcEvents.{desk_event}
 use Rattle.ds_turn.specs.ProcAsks.{Asks, HandFits}
 use Rattle.ds_turn.specs.ProcCerts.{Carries}
-use Rattle.ds_turn.specs.ProcTurns.{Acts, ActsBy, Admits, Judges, Queues, acted_process, judged_hand, judged_process}
+use Rattle.ds_turn.specs.ProcTurns.{Admits, Judges, Queues, act_for, judged_hand, judged_process}
 
 -- a message out of the hand came to its lane
 pub queues : (site : SitePlan) (a r l b : ProcRecord) (m : Message) (place : ℕ) (cert : LaneCert) → r ≡ a → l ≡ record r { hand = None } → r.hand ≡ Some m
@@ -40,25 +45,15 @@ queues site a r l b m place cert same laid held there found did =
       becomes = now.becomes;
     }
 
--- the desk did what it requests
-pub acts : (site : SitePlan) (a b : ProcRecord) (asked did : DeskRequest) (reg host : ℕ) → a.hand ≡ None → asked ≡ did → Asks site a (asks.PublicAct asked reg host)
-    → ActsBy site.here did reg host a b → Acts site a b
-acts site a b asked did reg host empty same ask by = record {
-  request = did;
-  reg = reg;
-  host = host;
-  reply = by.reply;
-  stamp = by.stamp;
-  act = by.act;
-  body = by.body;
-  given = by.given;
-  empty = empty;
-  asked = subst (λ (request : DeskRequest). Asks site a (asks.PublicAct request reg host)) same ask;
-  later = by.later;
-  says = by.says;
-  agreed = by.agreed;
-  becomes = by.becomes ∙ ap (λ (hand : Option Message). stepped (acted_process did reg host by.reply a.process) hand (desk_event a.who by.stamp by.act by.body by.given) a) empty;
-}
+-- what the desk may be asked
+home_numbers : (b : Bool) (limit n : ℕ) → n < limit → (b && nat_le limit n) ≡ false
+home_numbers false limit n less = refl
+home_numbers true limit n less = grind (arith, nat_tests)
+
+pub may_act : (site : SitePlan) (here : PubKey) (request : DeskRequest) (reg host : ℕ) → IsAskInRange site (asks.PublicAct request reg host) → MayAct here (act_for request)
+may_act site here (requests.Delegating c to from until) reg host range = tt
+may_act site here (requests.Importing bytes) reg host range = tt
+may_act site here (requests.Mapping c) reg host range = home_numbers (same_key c.creator here) (2 ^ 62) c.number range
 
 -- what comes to the hand has a lane
 holds : (lanes : List LaneCert) (p : Numbered) (m : Message) (place : Option ℕ) (reply : DeskReply) → IsGoing p → place ≡ position (is_lane_for m.to m.label) lanes → Carries place m reply

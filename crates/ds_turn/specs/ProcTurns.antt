@@ -2,7 +2,6 @@
 use Rattle.std.specs.Prelude.{◌≡◌, ◌≢◌, ℕ, ◌<◌, ◌⊎◌, Bool, true, false, [], List, Option, Some, None, IsTrue, length, slice_get}
 use Rattle.ds_label.specs.declared.rule.Rule.{Rule}
 use Rattle.ds_label.specs.declared.category.Category.{Category}
-use Rattle.ds_label.specs.declared.category.PubKey.{PubKey}
 use Rattle.ds_cert.specs.declared.lane.LaneCert.{LaneCert}
 use Rattle.ds_script.specs.declared.note.Note.TheVariants as notes
 use Rattle.ds_script.specs.Inner.{Course, inner}
@@ -86,6 +85,17 @@ abbrev pub IsMappingAnswer : DeskReply → Type 0
 IsMappingAnswer (replies.Local number) = Unit {0}
 IsMappingAnswer (replies.Refused rule) = Unit {0}
 IsMappingAnswer _ = ⊥
+
+abbrev pub IsAnswerTo : DeskRequest → DeskReply → Type 0
+IsAnswerTo (requests.Delegating c to from until) = IsDelegationAnswer
+IsAnswerTo (requests.Importing bytes) = IsImportAnswer
+IsAnswerTo (requests.Mapping c) = IsMappingAnswer
+
+-- the bytes of a delegation go into a register, which is below 8
+abbrev pub IsRegisterFor : DeskRequest → (reg : ℕ) → Type 0
+IsRegisterFor (requests.Delegating c to from until) reg = reg < 8
+IsRegisterFor (requests.Importing bytes) reg = Unit {0}
+IsRegisterFor (requests.Mapping c) reg = Unit {0}
 
 -- WHAT IT DID
 
@@ -182,18 +192,6 @@ pub record Takes (site : SitePlan) (a b : ProcRecord) : Type 0 where
   pub asked : Asks site a (asks.TakeFrom place reg slot)
   pub later : a.stamp < stamp
   pub becomes : b ≡ stepped (took_process reg slot message a.process) None (take_event a.who seat.slot stamp message) a
-
--- The desk of the host with this key did what it requests, or refused it.
-pub record ActsBy (here : PubKey) (request : DeskRequest) (reg host : ℕ) (a b : ProcRecord) : Type 0 where
-  pub reply : DeskReply
-  pub stamp : ℕ
-  pub act : ℕ
-  pub body : List ℕ
-  pub given : List ℕ
-  pub later : a.stamp < stamp
-  pub says : SaysOf (act_for request) reply act body given
-  pub agreed : HasTable here (acted_process request reg host reply a.process).names
-  pub becomes : b ≡ stepped (acted_process request reg host reply a.process) a.hand (desk_event a.who stamp act body given) a
 
 -- The desk did its public act, or refused it.
 pub record Acts (site : SitePlan) (a b : ProcRecord) : Type 0 where

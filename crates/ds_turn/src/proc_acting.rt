@@ -1,8 +1,7 @@
 //! A process's public acts.
 
-ghost use Rattle.std.specs.Prelude.{◌≡◌, ◌≢◌, ◌≤◌, ◌<◌, ◌^◌, Err, None, IfErr, OnErr, OnOk};
+ghost use Rattle.std.specs.Prelude.{◌≡◌, ◌≢◌, ◌≤◌, ◌<◌, Err, None, IfErr, IfOk, OnErr, OnOk};
 ghost use Rattle.ds_base.specs.Counts.{Rose};
-ghost use Rattle.ds_actor.specs.declared.ask.DeskRequest.TheVariants as requests;
 ghost use Rattle.ds_actor.specs.declared.ask.ProcessAsk.TheVariants as asks;
 ghost use Rattle.ds_actor.specs.Asking.{HasTable};
 ghost use Rattle.ds_turn.specs.Records.{desk_name};
@@ -10,7 +9,8 @@ ghost use Rattle.ds_turn.specs.Nodes.{seen_of};
 ghost use Rattle.ds_turn.specs.ProcRecords.{HasMemory, IsGoing, stepped};
 ghost use Rattle.ds_turn.specs.ProcEvents.{desk_event};
 ghost use Rattle.ds_turn.specs.ProcAsks.{IsAsking, MayStep};
-ghost use Rattle.ds_turn.specs.ProcTurns.{Acts, ActsBy, IsDelegationAnswer, IsImportAnswer, IsMappingAnswer, delegated_process, imported_process, mapped_process};
+ghost use Rattle.ds_turn.specs.ProcTurns.{Acts, IsAnswerTo, IsDelegationAnswer, IsImportAnswer, IsMappingAnswer, IsRegisterFor};
+ghost use Rattle.ds_turn.specs.ProcTurns.{act_for, acted_process, delegated_process, imported_process, mapped_process};
 
 use crate::node::Node;
 use crate::proc_asking::wait_for;
@@ -20,8 +20,8 @@ use ds_actor::DeskRequest;
 use ds_base::Keeper;
 use ds_label::{Category, PubKey};
 use ds_merge::{ObjectName, Recorded};
-use ds_share::{DeskAct, DeskReply, Receipt, SharedDesk, TurnFault};
-use ds_wire::Bytes;
+use ds_share::{DeskAct, DeskReply, Receipt, TurnFault};
+use std::alloc::AllocError;
 use std::sync::Wait;
 
 /// Most bytes of a register.
@@ -120,92 +120,57 @@ fn mapped_turn<R: Wait>(
     }
 }
 
-/// The desk makes a delegation of the process, or refuses it. The process is the same after a fault.
-fn delegate_turn<K: Keeper, R: Wait>(
-    rt: &R,
-    keeper: &mut K,
-    desk: &SharedDesk,
-    process: &mut RecordedProc,
-    category: Category,
-    to: PubKey,
-    from: u64,
-    until: u64,
-    reg: u8,
-    host: u32,
-) -> Result<(), TurnFault>
-    requires memory { HasMemory process.old }
-    requires going { IsGoing process.old.proc.process }
-    requires reg { reg < 8 }
-    requires agreed { HasTable desk.now process.old.proc.process.names }
-    ensures ok { OnOk result (ActsBy desk.now (requests.Delegating category to from until) reg host process.old.proc process.new.proc) }
-    ensures err { OnErr result (process.new.proc ≡ process.old.proc) }
-    ensures faults { K.faults keeper.old ≤ K.faults keeper.new }
-    ensures untouched { IfErr result (λ e. e ≢ TurnFault.KeeperFault → keeper.new ≡ keeper.old) }
-    ensures fault { result ≡ Err TurnFault.KeeperFault → Rose (K.faults keeper.old) (K.faults keeper.new) }
+/// What is asked of the desk for a request. `AllocError` where memory runs out.
+fn act_for(request: &DeskRequest) -> Result<DeskAct, AllocError>
+    ensures { IfOk result (λ act. act ≡ act_for request.now) }
 {
-    let act = DeskAct::Delegate {
-        category,
-        to,
-        from,
-        until,
-    };
-    let (receipt, reply) = desk.act(rt, keeper, process.stamp(), process.who(), act)?;
-    let event = desk_event(process, receipt);
-    delegated_turn(rt, process, event, category, reg, host, reply);
-    Ok(())
+    match request {
+        DeskRequest::Delegating {
+            category,
+            to,
+            from,
+            until,
+        } => Ok(DeskAct::Delegate {
+            category: *category,
+            to: *to,
+            from: *from,
+            until: *until,
+        }),
+        DeskRequest::Importing(cert) => Ok(DeskAct::Import { cert: cert.copy()? }),
+        DeskRequest::Mapping(category) => Ok(DeskAct::MapForeign { name: *category }),
+    }
 }
 
-/// The desk keeps the certificate that these bytes of the process spell, or refuses it. The process is the same after a fault.
-fn import_turn<K: Keeper, R: Wait>(
+/// The desk answered a request of the process, by which it goes on. It takes no memory.
+fn replied_turn<R: Wait>(
     rt: &R,
-    keeper: &mut K,
-    desk: &SharedDesk,
+    here: &PubKey,
     process: &mut RecordedProc,
-    cert: Bytes,
+    event: Recorded,
+    request: &DeskRequest,
     reg: u8,
     host: u32,
-) -> Result<(), TurnFault>
+    reply: DeskReply,
+)
     requires memory { HasMemory process.old }
     requires going { IsGoing process.old.proc.process }
-    requires agreed { HasTable desk.now process.old.proc.process.names }
-    ensures ok { OnOk result (ActsBy desk.now (requests.Importing cert) reg host process.old.proc process.new.proc) }
-    ensures err { OnErr result (process.new.proc ≡ process.old.proc) }
-    ensures faults { K.faults keeper.old ≤ K.faults keeper.new }
-    ensures untouched { IfErr result (λ e. e ≢ TurnFault.KeeperFault → keeper.new ≡ keeper.old) }
-    ensures fault { result ≡ Err TurnFault.KeeperFault → Rose (K.faults keeper.old) (K.faults keeper.new) }
+    requires later { process.old.proc.stamp < event.stamp }
+    requires range { IsRegisterFor request.now reg }
+    requires answer { IsAnswerTo request.now reply }
+    requires agreed { HasTable here.now process.old.proc.process.names }
+    ensures process { process.new.proc ≡ stepped (acted_process request.now reg host reply process.old.proc.process)
+        process.old.proc.hand event process.old.proc }
+    ensures agreed { HasTable here.now process.new.proc.process.names }
 {
-    let act = DeskAct::Import { cert };
-    let (receipt, reply) = desk.act(rt, keeper, process.stamp(), process.who(), act)?;
-    let event = desk_event(process, receipt);
-    imported_turn(process, event, reply);
-    Ok(())
-}
-
-/// The desk gives a category a number for the process, or refuses one. The process is the same after a fault.
-fn map_turn<K: Keeper, R: Wait>(
-    rt: &R,
-    keeper: &mut K,
-    desk: &SharedDesk,
-    process: &mut RecordedProc,
-    category: Category,
-    reg: u8,
-    host: u32,
-) -> Result<(), TurnFault>
-    requires memory { HasMemory process.old }
-    requires going { IsGoing process.old.proc.process }
-    requires range { category.number < 2 ^ 62 }
-    requires agreed { HasTable desk.now process.old.proc.process.names }
-    ensures ok { OnOk result (ActsBy desk.now (requests.Mapping category) reg host process.old.proc process.new.proc) }
-    ensures err { OnErr result (process.new.proc ≡ process.old.proc) }
-    ensures faults { K.faults keeper.old ≤ K.faults keeper.new }
-    ensures untouched { IfErr result (λ e. e ≢ TurnFault.KeeperFault → keeper.new ≡ keeper.old) }
-    ensures fault { result ≡ Err TurnFault.KeeperFault → Rose (K.faults keeper.old) (K.faults keeper.new) }
-{
-    let act = DeskAct::MapForeign { name: category };
-    let (receipt, reply) = desk.act(rt, keeper, process.stamp(), process.who(), act)?;
-    let event = desk_event(process, receipt);
-    mapped_turn(rt, desk.here(), process, event, category, reply);
-    Ok(())
+    match request {
+        DeskRequest::Delegating { category, .. } => {
+            delegated_turn(rt, process, event, *category, reg, host, reply);
+        }
+        DeskRequest::Importing(_) => imported_turn(process, event, reply),
+        DeskRequest::Mapping(category) => {
+            mapped_turn(rt, here, process, event, *category, reply);
+        }
+    }
 }
 
 /// A turn of a process that asks for a public act: the desk does it, or a rule refuses it. The process is the same after a fault.
@@ -232,25 +197,20 @@ pub(crate) fn act_turn<K: Keeper, R: Wait>(
     ensures untouched { IfErr result (λ e. e ≢ TurnFault.KeeperFault → keeper.new ≡ keeper.old) }
     ensures fault { result ≡ Err TurnFault.KeeperFault → Rose (K.faults keeper.old) (K.faults keeper.new) }
 {
-    match request {
-        DeskRequest::Delegating {
-            category,
-            to,
-            from,
-            until,
-        } => {
-            delegate_turn(
-                rt, keeper, &node.desk, process, category, to, from, until, reg, host,
-            )?;
-            Ok(())
-        }
-        DeskRequest::Importing(cert) => {
-            import_turn(rt, keeper, &node.desk, process, cert, reg, host)?;
-            Ok(())
-        }
-        DeskRequest::Mapping(category) => {
-            map_turn(rt, keeper, &node.desk, process, category, reg, host)?;
-            Ok(())
-        }
-    }
+    let act = act_for(&request)?;
+    let (receipt, reply) = node
+        .desk
+        .act(rt, keeper, process.stamp(), process.who(), act)?;
+    let event = desk_event(process, receipt);
+    replied_turn(
+        rt,
+        node.desk.here(),
+        process,
+        event,
+        &request,
+        reg,
+        host,
+        reply,
+    );
+    Ok(())
 }

@@ -1,20 +1,11 @@
-use Rattle.ds_actor.specs.declared.ask.DeskRequest.TheVariants as requests
+use Rattle.std.proofs.Common.{sym, subst}
+use Rattle.ds_share.specs.Desks.{MayAct}
 use Rattle.ds_turn.specs.Nodes.{seen_of}
-use Rattle.ds_turn.proofs.ProcSteps.{acts}
+use Rattle.ds_turn.proofs.ProcSteps.{may_act}
 use Rattle.ds_turn.proofs.proc_acting.act_turn.Goals as goal
 
-pub returns-in_ok-delegate_turn-in-Delegating-clause-ok : goal.returns-in_ok-delegate_turn-in-Delegating-clause-ok
-returns-in_ok-delegate_turn-in-Delegating-clause-ok g c =
-    acts (seen_of c.args.node.now) c.args.process.now.proc c.delegate_turn.new.process.proc c.args.request
-    (requests.Delegating c.in-Delegating.category c.in-Delegating.to c.in-Delegating.from c.in-Delegating.until) c.args.reg c.args.host
-    c.requires.empty c.in-Delegating.is c.requires.asks.asked c.in_ok-delegate_turn-in-Delegating.ensures.ok
-
-pub returns-in_ok-import_turn-in-Importing-clause-ok : goal.returns-in_ok-import_turn-in-Importing-clause-ok
-returns-in_ok-import_turn-in-Importing-clause-ok g c =
-    acts (seen_of c.args.node.now) c.args.process.now.proc c.import_turn.new.process.proc c.args.request (requests.Importing c.in-Importing.cert) c.args.reg c.args.host
-    c.requires.empty c.in-Importing.is c.requires.asks.asked c.in_ok-import_turn-in-Importing.ensures.ok
-
-pub returns-in_ok-map_turn-in-Mapping-clause-ok : goal.returns-in_ok-map_turn-in-Mapping-clause-ok
-returns-in_ok-map_turn-in-Mapping-clause-ok g c =
-    acts (seen_of c.args.node.now) c.args.process.now.proc c.map_turn.new.process.proc c.args.request (requests.Mapping c.in-Mapping.category) c.args.reg c.args.host
-    c.requires.empty c.in-Mapping.is c.requires.asks.asked c.in_ok-map_turn-in-Mapping.ensures.ok
+pub act-requires : goal.act-requires
+act-requires g c =
+    let site = seen_of c.args.node.now in record {
+      may = subst (MayAct site.here) (sym c.in_ok-act.ensures) (may_act site site.here c.args.request c.args.reg c.args.host c.requires.asks.range);
+    }
