@@ -47,7 +47,7 @@ lifts_are_recorded s plan w h l stamp x e m waiting here works queue none leaf =
     let asks : lane_ask s (lane_plan (host_plan plan h) l) e ≡ Lifts = lifts_when s (lane_plan (host_plan plan h) l) e none leaf in
     record {
       entry = ap (λ a. option_map (kept_of plan w (worker_of h l) stamp) (touch_of h a)) (access_is s plan w h l x e here works Lifts asks ∙ ap (lift_access_in l) queue)
-          ∙ ap (λ n. Some (entry_on (lane_name (worker_of h l)) (worker_of h l) stamp 3 (to_be_bytes w32 n))) (front_length m waiting);
+          ∙ ap (λ n. Some (entry_on (lane_name (worker_of h l).host (worker_of h l).index) (worker_of h l) stamp 3 (to_be_bytes w32 n))) (front_length m waiting);
       answer = given_is s plan w h l x e here works Lifts asks ∙ ap (λ q. flat_map spelling_of_waiting (map on_lane (front_of q))) queue;
     }
 

@@ -24,12 +24,11 @@ use Rattle.ds_share.specs.Desks.{IsReceiptOfAct, given_by_judge}
 use Rattle.ds_share.specs.SharedInlets.{answered_number}
 use Rattle.ds_share.specs.Spelling.{spelling_of_mail}
 use Rattle.ds_merge.specs.declared.kept.Kept.{Kept}
-use Rattle.ds_merge.specs.declared.kept.ObjectName.{ObjectName}
 use Rattle.ds_merge.specs.declared.recorded.Recorded.{Recorded}
 use Rattle.ds_turn.specs.declared.node.BoxSeat.{BoxSeat}
 use Rattle.ds_turn.specs.declared.node.InletSeat.{InletSeat}
 use Rattle.ds_turn.specs.declared.node.Node.{Node}
-use Rattle.ds_turn.specs.Records.{desk_name, entry_on}
+use Rattle.ds_turn.specs.Records.{box_name, desk_name, entry_on, inlet_name}
 use Rattle.ds_turn.specs.ConnRecords.{ConnRecord, recorded, with_conn}
 
 -- WHAT A HOST'S THREADS SHARE
@@ -68,14 +67,6 @@ pub record LeadsTo (node : Node) (k : Connection) : Type 0 where
   pub hello : HasHelloFirst k
 
 -- EVENTS
-
--- the mailbox with that slot on a host
-abbrev pub box_name : (host slot : ℕ) → ObjectName
-box_name host slot = record { host = host; kind = 2; id = slot }
-
--- the inlet at that place on a host
-abbrev pub inlet_name : (host place : ℕ) → ObjectName
-inlet_name host place = record { host = host; kind = 4; id = place }
 
 -- an arrival of these bytes
 abbrev pub arrive_event : Actor → (stamp : ℕ) → (bytes : List ℕ) → Recorded

@@ -16,7 +16,7 @@ use Rattle.ds_turn.specs.LaneRecords.{LaneRecord, recorded}
 
 -- the event of a lift: the lane enters how many were lifted, and hands them out
 abbrev pub lift_event : Actor → (stamp : ℕ) → List Waiting → Recorded
-lift_event who stamp batch = frame_event (entry_on (lane_name who) who stamp 3 (to_be_bytes w32 (length batch))) (flat_map spelling_of_waiting batch)
+lift_event who stamp batch = frame_event (entry_on (lane_name who.host who.index) who stamp 3 (to_be_bytes w32 (length batch))) (flat_map spelling_of_waiting batch)
 
 -- the event of a judgement: the desk enters a look, and hands out its answer
 abbrev pub judge_event : Actor → (stamp : ℕ) → DeskReply → Recorded

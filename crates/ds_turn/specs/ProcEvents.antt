@@ -6,7 +6,7 @@ use Rattle.ds_msg.specs.declared.local.LocalMessage.{LocalMessage}
 use Rattle.ds_msg.specs.Spelling.{spelling_of_message}
 use Rattle.ds_share.specs.Spelling.{spelling_of_mail}
 use Rattle.ds_merge.specs.declared.recorded.Recorded.{Recorded}
-use Rattle.ds_turn.specs.Records.{box_name, desk_name, entry_on, numbered_lane, step_event}
+use Rattle.ds_turn.specs.Records.{box_name, desk_name, entry_on, lane_name, step_event}
 use Rattle.ds_turn.specs.ProcRecords.{ProcRecord}
 
 -- it touched no object: its stamp is the next one
@@ -15,7 +15,7 @@ lone_event r = step_event r.who (r.stamp + 1) None []
 
 -- the lane with this number entered this message, by that act
 abbrev pub queue_event : Actor → (number stamp act : ℕ) → Message → Recorded
-queue_event who number stamp act m = step_event who stamp (Some (entry_on (numbered_lane who.host number) who stamp act (spelling_of_message m))) []
+queue_event who number stamp act m = step_event who stamp (Some (entry_on (lane_name who.host number) who stamp act (spelling_of_message m))) []
 
 -- the mailbox with this slot entered this message, by that act
 abbrev pub put_event : Actor → (slot stamp act : ℕ) → LocalMessage → Recorded

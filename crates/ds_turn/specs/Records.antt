@@ -9,9 +9,17 @@ use Rattle.ds_merge.specs.declared.recorded.Recorded.{Recorded}
 abbrev pub desk_name : (host : ℕ) → ObjectName
 desk_name host = record { host = host; kind = 1; id = 0 }
 
--- the lane whose worker this is
-abbrev pub lane_name : Actor → ObjectName
-lane_name who = record { host = who.host; kind = 3; id = who.index }
+-- the mailbox with this slot
+abbrev pub box_name : (host slot : ℕ) → ObjectName
+box_name host slot = record { host = host; kind = 2; id = slot }
+
+-- the lane with this number
+abbrev pub lane_name : (host number : ℕ) → ObjectName
+lane_name host number = record { host = host; kind = 3; id = number }
+
+-- the inlet at this place
+abbrev pub inlet_name : (host place : ℕ) → ObjectName
+inlet_name host place = record { host = host; kind = 4; id = place }
 
 -- an entry of this actor
 abbrev pub entry_on : ObjectName → Actor → (stamp act : ℕ) → (body : List ℕ) → Kept
@@ -23,13 +31,6 @@ frame_event kept given = record { who = kept.who; stamp = kept.stamp; act = 2; b
 
 abbrev pub stamp_of : Recorded → ℕ
 stamp_of event = event.stamp
-
--- the mailbox with this slot, and the lane with this number
-abbrev pub box_name : (host slot : ℕ) → ObjectName
-box_name host slot = record { host = host; kind = 2; id = slot }
-
-abbrev pub numbered_lane : (host number : ℕ) → ObjectName
-numbered_lane host number = record { host = host; kind = 3; id = number }
 
 -- a step of a process, by which that entry was made, if any, and that was handed out
 abbrev pub step_event : Actor → (stamp : ℕ) → Option Kept → (given : List ℕ) → Recorded

@@ -6,10 +6,11 @@ ghost use Rattle.ds_inlet.specs.Connections.{IsForLane, IsOffered, IsShortMessag
 ghost use Rattle.ds_script.specs.Replay.{last_of, rises};
 ghost use Rattle.ds_share.specs.Receipts.{next_stamp};
 ghost use Rattle.ds_share.specs.SharedInlets.{IsReceiptOfAccept};
-ghost use Rattle.ds_turn.specs.Records.{desk_name, entry_on, stamp_of};
+ghost use Rattle.ds_turn.specs.Records.{box_name, desk_name, entry_on, stamp_of};
 ghost use Rattle.ds_turn.specs.ConnRecords.{fresh_conn, recorded, with_conn};
-ghost use Rattle.ds_turn.specs.ConnTurns.{after_verdict, arrive_event, box_name, conn_event, count_event, inlet_name, read_event};
+ghost use Rattle.ds_turn.specs.ConnTurns.{after_verdict, arrive_event, conn_event, count_event, read_event};
 
+use crate::names::{box_name, desk_name, inlet_name};
 use ds_frame::ReadEnd;
 use ds_inlet::{Conn, Offer, Stale};
 use ds_label::Rule;
@@ -242,39 +243,6 @@ fn stamp_above<R: Wait>(rt: &R, stamp: u64) -> u64
         }
     }
     unreachable!()
-}
-
-/// The name of the inlet at that place.
-fn inlet_name(host: u32, place: u32) -> ObjectName
-    ensures { result ≡ inlet_name host place }
-{
-    ObjectName {
-        host,
-        kind: 4,
-        id: place,
-    }
-}
-
-/// The name of the mailbox with that slot.
-fn box_name(host: u32, slot: u32) -> ObjectName
-    ensures { result ≡ box_name host slot }
-{
-    ObjectName {
-        host,
-        kind: 2,
-        id: slot,
-    }
-}
-
-/// The name of a host's desk.
-fn desk_name(host: u32) -> ObjectName
-    ensures { result ≡ desk_name host }
-{
-    ObjectName {
-        host,
-        kind: 1,
-        id: 0,
-    }
 }
 
 /// The arrival of these bytes. It takes no memory.

@@ -7,10 +7,11 @@ ghost use Rattle.ds_lane.specs.Workers.{IsReady, holding};
 ghost use Rattle.ds_share.specs.Desks.{IsFrameAnswer, SaysOfJudging};
 ghost use Rattle.ds_share.specs.SharedLanes.{IsReceiptOfLift};
 ghost use Rattle.ds_script.specs.Replay.{last_of, rises};
-ghost use Rattle.ds_turn.specs.Records.{desk_name, entry_on, frame_event, lane_name, stamp_of};
+ghost use Rattle.ds_turn.specs.Records.{entry_on, frame_event, stamp_of};
 ghost use Rattle.ds_turn.specs.LaneRecords.{fresh_lane, recorded};
 ghost use Rattle.ds_turn.specs.LaneTurns.{judged_worker, judge_event, lift_event};
 
+use crate::names::{desk_name, lane_name};
 use ds_base::Keeper;
 use ds_lane::{BodyBatch, LaneEnd, LaneFault};
 use ds_merge::{Kept, ObjectName, Recorded};
@@ -110,7 +111,7 @@ impl RecordedLane {
     {
         let who = self.end.who();
         self.end.hold(batch);
-        let event = frame_event(self.alloc, lane_name(who), who, receipt);
+        let event = frame_event(self.alloc, lane_name(who.host, who.index), who, receipt);
         self.enter(event);
     }
 
@@ -142,28 +143,6 @@ impl RecordedLane {
         let event = frame_event(self.alloc, desk_name(who.host), who, receipt);
         self.enter(event);
         Ok(())
-    }
-}
-
-/// The name of the lane whose worker this is.
-fn lane_name(who: Actor) -> ObjectName
-    ensures { result ≡ lane_name who }
-{
-    ObjectName {
-        host: who.host,
-        kind: 3,
-        id: who.index,
-    }
-}
-
-/// The name of a host's desk.
-fn desk_name(host: u32) -> ObjectName
-    ensures { result ≡ desk_name host }
-{
-    ObjectName {
-        host,
-        kind: 1,
-        id: 0,
     }
 }
 

@@ -7,6 +7,7 @@ mod conn_laws;
 mod conn_record;
 mod lane;
 mod lane_record;
+mod names;
 mod node;
 mod proc;
 mod proc_acting;

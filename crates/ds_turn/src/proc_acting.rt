@@ -4,7 +4,6 @@ ghost use Rattle.std.specs.Prelude.{◌≡◌, ◌≢◌, ◌≤◌, ◌<◌, Er
 ghost use Rattle.ds_base.specs.Counts.{Rose};
 ghost use Rattle.ds_actor.specs.declared.ask.ProcessAsk.TheVariants as asks;
 ghost use Rattle.ds_actor.specs.Asking.{HasTable};
-ghost use Rattle.ds_turn.specs.Records.{desk_name};
 ghost use Rattle.ds_turn.specs.Nodes.{seen_of};
 ghost use Rattle.ds_turn.specs.ProcRecords.{HasMemory, IsGoing, stepped};
 ghost use Rattle.ds_turn.specs.ProcEvents.{desk_event};
@@ -12,6 +11,7 @@ ghost use Rattle.ds_turn.specs.ProcAsks.{IsAsking, MayStep};
 ghost use Rattle.ds_turn.specs.ProcTurns.{Acts, IsAnswerTo, IsDelegationAnswer, IsImportAnswer, IsMappingAnswer, IsRegisterFor};
 ghost use Rattle.ds_turn.specs.ProcTurns.{act_for, acted_process, delegated_process, imported_process, mapped_process};
 
+use crate::names::desk_name;
 use crate::node::Node;
 use crate::proc_asking::wait_for;
 use crate::proc_names::has_number;
@@ -19,24 +19,13 @@ use crate::proc_record::{RecordedProc, entry_event};
 use ds_actor::DeskRequest;
 use ds_base::Keeper;
 use ds_label::{Category, PubKey};
-use ds_merge::{ObjectName, Recorded};
+use ds_merge::Recorded;
 use ds_share::{DeskAct, DeskReply, Receipt, TurnFault};
 use std::alloc::AllocError;
 use std::sync::Wait;
 
 /// Most bytes of a register.
 const REGISTER_LIMIT: usize = 16384;
-
-/// The name of a host's desk.
-pub(crate) fn desk_name(host: u32) -> ObjectName
-    ensures { result ≡ desk_name host }
-{
-    ObjectName {
-        host,
-        kind: 1,
-        id: 0,
-    }
-}
 
 /// The event of a process of which the desk did an act. It takes no memory.
 pub(crate) fn desk_event(process: &RecordedProc, receipt: Receipt) -> Recorded

@@ -3,29 +3,17 @@
 ghost use Rattle.std.specs.Prelude.{◌≡◌, ◌<◌, IfOk, OnOk, OnErr};
 ghost use Rattle.std.specs.Bool.{MatchBool};
 ghost use Rattle.ds_box.specs.Boxes.{IsShortMail};
-ghost use Rattle.ds_turn.specs.Records.{box_name};
 ghost use Rattle.ds_turn.specs.ProcRecords.{HasMemory, IsGoing};
 ghost use Rattle.ds_turn.specs.ProcTurns.{PutsInto, TakesFrom};
 
+use crate::names::box_name;
 use crate::node::BoxSeat;
 use crate::proc_record::{RecordedProc, entry_event};
 use ds_base::Gate;
-use ds_merge::ObjectName;
 use ds_msg::LocalMessage;
 use ds_share::TakeEnd;
 use std::alloc::AllocError;
 use std::sync::Wait;
-
-/// The name of the mailbox with this slot.
-fn box_name(host: u32, slot: u32) -> ObjectName
-    ensures { result ≡ box_name host slot }
-{
-    ObjectName {
-        host,
-        kind: 2,
-        id: slot,
-    }
-}
 
 /// A message of the process comes to a mailbox, which drops it where it is full. `AllocError` where memory runs out; the process
 /// is the same then.

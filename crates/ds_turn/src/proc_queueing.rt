@@ -4,30 +4,18 @@ ghost use Rattle.std.specs.Prelude.{◌≡◌, Some, is_some, true, OnOk, OnErr}
 ghost use Rattle.ds_msg.specs.Ranges.{MessageRange};
 ghost use Rattle.ds_actor.specs.Sites.{is_lane_for};
 ghost use Rattle.ds_turn.specs.Nodes.{seen_of};
-ghost use Rattle.ds_turn.specs.Records.{numbered_lane};
 ghost use Rattle.ds_turn.specs.ProcRecords.{HasMemory, IsGoing};
 ghost use Rattle.ds_turn.specs.ProcAsks.{MayStep};
 ghost use Rattle.ds_turn.specs.ProcTurns.{Admits, Queues};
 
+use crate::names::lane_name;
 use crate::node::{Node, goes_onto};
 use crate::proc_record::{RecordedProc, entry_event};
 use ds_actor::Site;
-use ds_merge::ObjectName;
 use ds_msg::Message;
 use ds_share::SharedLane;
 use std::alloc::AllocError;
 use std::sync::Wait;
-
-/// The name of the lane with this number.
-fn numbered_lane(host: u32, number: u32) -> ObjectName
-    ensures { result ≡ numbered_lane host number }
-{
-    ObjectName {
-        host,
-        kind: 3,
-        id: number,
-    }
-}
 
 /// A message that was in the hand of the process goes onto its lane. `AllocError` where memory runs out; the message is back in
 /// the hand then.
@@ -50,7 +38,7 @@ fn admit_turn<R: Wait>(
     let who = process.who();
     match lane.admit(rt, process.stamp(), who, message) {
         Ok(receipt) => {
-            let object = numbered_lane(who.host, lane.cert().lane);
+            let object = lane_name(who.host, lane.cert().lane);
             process.sent(entry_event(process.allocator(), object, who, receipt));
             Ok(())
         }
