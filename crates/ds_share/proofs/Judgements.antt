@@ -1,6 +1,6 @@
 -- What the desk's judges answer.
-use Rattle.std.proofs.Common.{◌≡◌, ℕ, ◌<◌, ◌+◌, true, take, length, List, [], None, sym, ap, ◌∙◌, subst, arith}
-use Rattle.std.specs.Prelude.{slice_index_or, Result, Ok, Err, IfOk}
+use Rattle.std.proofs.Common.{◌≡◌, ℕ, ◌<◌, ◌+◌, true, take, length, List, [], ◌∷◌, Option, Some, None, refl, sym, ap, ◌∙◌, subst, arith}
+use Rattle.std.specs.Prelude.{slice_index_or, is_some, Result, Ok, Err, IfOk}
 use Rattle.std.proofs.lemmas.List.{take_more}
 use Rattle.ds_msg.specs.Ranges.{CertsFit, AreShort}
 use Rattle.ds_msg.proofs.CertLaws.{are_short}
@@ -10,6 +10,9 @@ use Rattle.ds_script.proofs.Replays.{last_of-push}
 use Rattle.ds_desk.specs.declared.act.DeskEntry.{DeskEntry}
 use Rattle.ds_model.specs.Scheme.{Scheme}
 use Rattle.ds_model.specs.Plan.{HostPlan, no_signing}
+use Rattle.ds_label.specs.declared.rule.Rule.{Rule}
+use Rattle.ds_model.specs.FirstRule.{first_rule}
+use Rattle.ds_model.specs.ExporterRules.{lane_rule}
 use Rattle.ds_model.specs.Keys.{no_key}
 use Rattle.ds_model.specs.Desk.{DeskEntry as Change}
 use Rattle.ds_desk.specs.Desks.{DeskView, entered, entry_of, stamp_of}
@@ -47,6 +50,11 @@ some_scheme = record {
   ending = λ key inlets bytes. None;
   frame_signed = λ key number ms bytes. true;
 }
+
+-- a send that passes has a lane
+pub lane_there : (lane : Option ℕ) (sender : Option Rule) → first_rule (lane_rule lane ∷ sender ∷ []) ≡ None → is_some lane ≡ true
+lane_there None sender e = absurd cc
+lane_there (Some l) sender e = refl
 
 -- the last stamp after an entry is the entry's
 pub stamp_entered : (stamp : ℕ) (who : Actor) (change : Change) (before after : DeskView) → after ≡ entered stamp who change before → last_of_desk after ≡ stamp

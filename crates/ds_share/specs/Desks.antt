@@ -1,5 +1,5 @@
 -- What a shared desk's acts enter, answer and hand out.
-use Rattle.std.specs.Prelude.{◌≡◌, ℕ, ◌<◌, false, List, [], ◌++◌, length, Option, Some, None}
+use Rattle.std.specs.Prelude.{◌≡◌, ℕ, ◌<◌, ◌≤◌, false, true, List, [], ◌++◌, length, Option, Some, None, is_some}
 use Rattle.std.specs.Int.{w8, w64, to_be_bytes}
 use Rattle.ds_label.specs.declared.category.PubKey.{PubKey}
 use Rattle.ds_label.specs.declared.category.Category.{Category}
@@ -9,7 +9,7 @@ use Rattle.ds_label.specs.Rules.{rule_number}
 use Rattle.ds_script.specs.Replay.{last_of}
 use Rattle.ds_cert.specs.declared.address.Address.{Address}
 use Rattle.ds_cert.specs.Spelling.{spelling_of_category, spelling_of_cert, spelling_of_delegation}
-use Rattle.ds_msg.specs.Ranges.{AreShort}
+use Rattle.ds_msg.specs.Ranges.{AreShort, CertsFit}
 use Rattle.ds_msg.specs.Spelling.{spelling_of_certs}
 use Rattle.ds_chain.specs.Addresses.{find_address}
 use Rattle.ds_model.specs.Scheme.{Scheme}
@@ -183,7 +183,7 @@ Says number body given act spelled handed = (act ≡ number) × (spelled ≡ bod
 
 -- of a delegation: it was made, and its spelling is the entry's, or a rule refused it
 abbrev pub SaysOfDelegating : DeskReply → ℕ → List ℕ → List ℕ → Type 0
-SaysOfDelegating (replies.Made bytes) = Says 3 bytes []
+SaysOfDelegating (replies.Made bytes) = λ act spelled handed. (length bytes ≤ 2704) × Says 3 bytes [] act spelled handed
 SaysOfDelegating (replies.Refused rule) = Says 6 (to_be_bytes w8 (rule_number rule)) []
 SaysOfDelegating _ = λ act spelled handed. ⊥
 
@@ -199,11 +199,13 @@ SaysOfMapping c (replies.Local n) = Says 5 (spelling_of_category c) (to_be_bytes
 SaysOfMapping c (replies.Refused rule) = Says 6 (to_be_bytes w8 (rule_number rule)) []
 SaysOfMapping c _ = λ act spelled handed. ⊥
 
--- what a judge may answer of a send, a frame and an arrival
-abbrev pub IsSendAnswer : DeskReply → Type 0
-IsSendAnswer (replies.Attached certs) = Unit {0}
-IsSendAnswer (replies.Refused rule) = Unit {0}
-IsSendAnswer _ = ⊥
+-- what a judge may answer of a send on this lane, if there is one: certificates that a message may carry, where there is one
+abbrev pub IsSendAnswer : (lane : Option ℕ) → DeskReply → Type 0
+IsSendAnswer lane (replies.Attached certs) = CertsFit certs × (is_some lane ≡ true)
+IsSendAnswer lane (replies.Refused rule) = Unit {0}
+IsSendAnswer lane _ = ⊥
+
+-- and of a frame and an arrival
 
 abbrev pub IsFrameAnswer : DeskReply → Type 0
 IsFrameAnswer (replies.Found address) = Unit {0}
@@ -230,7 +232,7 @@ SaysOf (acts.Delegate c to from until) = SaysOfDelegating
 SaysOf (acts.Import cert) = SaysOfImporting cert
 SaysOf (acts.MapForeign c) = SaysOfMapping c
 SaysOf acts.Look = SaysDone 1 []
-SaysOf (acts.JudgeSend lane to label own clear) = SaysOfJudging IsSendAnswer
+SaysOf (acts.JudgeSend lane to label own clear) = SaysOfJudging (IsSendAnswer lane)
 SaysOf (acts.JudgeFrame to label) = SaysOfJudging IsFrameAnswer
 SaysOf (acts.JudgeArrive lane m) = SaysOfJudging IsArrivalAnswer
 

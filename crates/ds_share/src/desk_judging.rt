@@ -185,7 +185,7 @@ fn send_reply(
     ensures reply { (s : Scheme) → IfOk result (λ reply. reply ≡
         judged (judge_send (flow_scheme s) lane desk.old.addresses.items desk.old.store.items desk.old.moment to.now label.now)
         (replies.Attached (attach (flow_scheme s) desk.old.store.items desk.old.moment desk.old.here label.now own.now clear.now))) }
-    ensures answer { IfOk result IsSendAnswer }
+    ensures answer { IfOk result (IsSendAnswer lane) }
     ensures short { IfOk result HasShortCerts }
     ensures fault { IfErr result (λ e. e ≡ TurnFault.NoMemory) }
     ensures same { desk.new ≡ desk.old }
@@ -341,7 +341,7 @@ pub(crate) fn judge_sent(
     requires later { last_stamp desk.old < stamp }
     ensures told { (s : Scheme) (plan : HostPlan) → IfOk result (λ t.
         t ≡ told Looked (given_by_judge t.reply) (answer_for s plan (kept_of desk.old) (acts.JudgeSend lane to label own clear))) }
-    ensures says { IfOk result (Tells (SaysOfJudging IsSendAnswer)) }
+    ensures says { IfOk result (Tells (SaysOfJudging (IsSendAnswer lane))) }
     ensures state { OnOk result (kept_of desk.new ≡ entered stamp who Looked (kept_of desk.old)) }
     ensures fault { IfErr result (λ e. e ≡ TurnFault.NoMemory) }
     ensures err { OnErr result (kept_of desk.new ≡ kept_of desk.old) }

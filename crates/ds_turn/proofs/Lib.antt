@@ -9,5 +9,4 @@ mod SeatPlaces
 mod ProcTables
 mod ProcSteps
 mod ProcAskings
-mod ProcCertificates
 mod ProcTurned

@@ -22,7 +22,7 @@ use Rattle.ds_actor.proofs.Sites.{same_lane}
 use Rattle.ds_turn.specs.ProcRecords.{IsGoing, ProcRecord, stepped}
 use Rattle.ds_turn.specs.ProcEvents.{desk_event}
 use Rattle.ds_turn.specs.ProcAsks.{Asks, HandFits}
-use Rattle.ds_turn.specs.ProcCerts.{Carries}
+use Rattle.ds_turn.specs.ProcCerts.{IsInRange, IsVerdict, number_at}
 use Rattle.ds_turn.specs.ProcTurns.{Admits, Judges, Queues, act_for, judged_hand, judged_process}
 
 -- a message out of the hand came to its lane
@@ -56,25 +56,35 @@ may_act site here (requests.Importing bytes) reg host range = tt
 may_act site here (requests.Mapping c) reg host range = home_numbers (same_key c.creator here) (2 ^ 62) c.number range
 
 -- what comes to the hand has a lane
-holds : (lanes : List LaneCert) (p : Numbered) (m : Message) (place : Option ℕ) (reply : DeskReply) → IsGoing p → place ≡ position (is_lane_for m.to m.label) lanes → Carries place m reply
-    → HandFits lanes p (judged_hand m reply None)
-holds lanes p m place (replies.Attached certs) going found carries = go place found carries.0
+holds : (lanes : List LaneCert) (p : Numbered) (m : Message) (place : Option ℕ) (reply : DeskReply) → IsGoing p → place ≡ position (is_lane_for m.to m.label) lanes
+    → IsSendAnswer (number_at lanes place) reply → IsInRange m reply → HandFits lanes p (judged_hand m reply None)
+holds lanes p m place (replies.Attached certs) going found answer range = go place found answer.1
   where
-    go : (o : Option ℕ) → o ≡ position (is_lane_for m.to m.label) lanes → is_some o ≡ true → HandFits lanes p (Some (record m { certs = certs }))
-    go (Some at) e is = record { place = at; lane = sym e; range = carries.1; going = going }
+    go : (o : Option ℕ) → o ≡ position (is_lane_for m.to m.label) lanes → is_some (number_at lanes o) ≡ true → HandFits lanes p (Some (record m { certs = certs }))
+    go (Some at) e is = record { place = at; lane = sym e; range = range; going = going }
     go None e is = absurd cc
-holds lanes p m place replies.Done going found carries = tt
-holds lanes p m place (replies.Made bytes) going found carries = tt
-holds lanes p m place (replies.Local number) going found carries = tt
-holds lanes p m place (replies.Found address) going found carries = tt
-holds lanes p m place (replies.Named label own clear) going found carries = tt
-holds lanes p m place (replies.Refused rule) going found carries = tt
+holds lanes p m place replies.Done going found answer range = tt
+holds lanes p m place (replies.Made bytes) going found answer range = tt
+holds lanes p m place (replies.Local number) going found answer range = tt
+holds lanes p m place (replies.Found address) going found answer range = tt
+holds lanes p m place (replies.Named label own clear) going found answer range = tt
+holds lanes p m place (replies.Refused rule) going found answer range = tt
+
+-- a judge's answer to a send is a verdict
+pub verdict : (lane : Option ℕ) (reply : DeskReply) → IsSendAnswer lane reply → IsVerdict reply
+verdict lane (replies.Attached certs) answer = answer.0
+verdict lane (replies.Refused rule) answer = tt
+verdict lane replies.Done answer = answer
+verdict lane (replies.Made bytes) answer = answer
+verdict lane (replies.Local number) answer = answer
+verdict lane (replies.Found address) answer = answer
+verdict lane (replies.Named label own clear) answer = answer
 
 -- the desk judged a message
 pub judges : (site : SitePlan) (a b : ProcRecord) (m : Message) (place : Option ℕ) (reply : DeskReply) (r : Receipt) (event : Recorded) → a.hand ≡ None → IsGoing a.process
-    → Asks site a (asks.AsksJudgement m) → place ≡ position (is_lane_for m.to m.label) site.lanes → a.stamp < r.stamp → SaysOfJudging IsSendAnswer reply r.act r.body r.given
-    → event ≡ desk_event a.who r.stamp r.act r.body r.given → Carries place m reply → b ≡ stepped (judged_process reply a.process) (judged_hand m reply a.hand) event a → Judges site a b
-judges site a b m place reply r event empty going ask found later says made carries became =
+    → Asks site a (asks.AsksJudgement m) → place ≡ position (is_lane_for m.to m.label) site.lanes → a.stamp < r.stamp → SaysOfJudging (IsSendAnswer (number_at site.lanes place)) reply r.act r.body r.given
+    → event ≡ desk_event a.who r.stamp r.act r.body r.given → IsInRange m reply → b ≡ stepped (judged_process reply a.process) (judged_hand m reply a.hand) event a → Judges site a b
+judges site a b m place reply r event empty going ask found later says made range became =
     let is : event ≡ desk_event a.who r.stamp 1 [] (given_by_judge reply) = made ∙ (λ i. desk_event a.who r.stamp (says.1.0 i) (says.1.1 i) (says.1.2 i)) in
     record {
       message = m;
@@ -83,7 +93,7 @@ judges site a b m place reply r event empty going ask found later says made carr
       empty = empty;
       asked = ask;
       later = later;
-      answer = says.0;
-      holds = holds site.lanes a.process m place reply going found carries;
+      answer = verdict (number_at site.lanes place) reply says.0;
+      holds = holds site.lanes a.process m place reply going found says.0 range;
       becomes = became ∙ (λ i. stepped (judged_process reply a.process) (judged_hand m reply (empty i)) (is i) a);
     }

@@ -1,5 +1,5 @@
 -- What a turn of a process does.
-use Rattle.std.specs.Prelude.{◌≡◌, ◌≢◌, ℕ, ◌<◌, ◌⊎◌, Bool, true, false, [], List, Option, Some, None, IsTrue, length, slice_get}
+use Rattle.std.specs.Prelude.{◌≡◌, ◌≢◌, ℕ, ◌<◌, ◌≤◌, ◌⊎◌, Bool, true, false, [], List, Option, Some, None, IsTrue, length, slice_get}
 use Rattle.ds_label.specs.declared.rule.Rule.{Rule}
 use Rattle.ds_label.specs.declared.category.Category.{Category}
 use Rattle.ds_cert.specs.declared.lane.LaneCert.{LaneCert}
@@ -13,7 +13,7 @@ use Rattle.ds_share.specs.declared.desk_act.DeskAct.{DeskAct}
 use Rattle.ds_share.specs.declared.desk_act.DeskAct.TheVariants as acts
 use Rattle.ds_share.specs.declared.desk_act.DeskReply.{DeskReply}
 use Rattle.ds_share.specs.declared.desk_act.DeskReply.TheVariants as replies
-use Rattle.ds_share.specs.Desks.{IsSendAnswer, SaysOf, given_by_judge}
+use Rattle.ds_share.specs.Desks.{SaysOf, given_by_judge}
 use Rattle.ds_actor.specs.declared.ask.DeskRequest.{DeskRequest}
 use Rattle.ds_actor.specs.declared.ask.DeskRequest.TheVariants as requests
 use Rattle.ds_actor.specs.declared.ask.ProcessAsk.TheVariants as asks
@@ -22,6 +22,7 @@ use Rattle.ds_actor.specs.Seen.{UnderTables, mail_labels}
 use Rattle.ds_actor.specs.Asking.{HasTable}
 use Rattle.ds_actor.specs.Replying.{took_process}
 use Rattle.ds_turn.specs.ProcRecords.{ProcRecord, stepped}
+use Rattle.ds_turn.specs.ProcCerts.{IsVerdict}
 use Rattle.ds_turn.specs.ProcEvents.{desk_event, lone_event, put_event, queue_event, take_event}
 use Rattle.ds_turn.specs.ProcAsks.{Asks, AsksLane, HandFits, MovesTo}
 
@@ -72,7 +73,7 @@ act_for (requests.Mapping c) = acts.MapForeign c
 
 -- what the desk may answer to each
 abbrev pub IsDelegationAnswer : DeskReply → Type 0
-IsDelegationAnswer (replies.Made bytes) = Unit {0}
+IsDelegationAnswer (replies.Made bytes) = length bytes ≤ 2704
 IsDelegationAnswer (replies.Refused rule) = Unit {0}
 IsDelegationAnswer _ = ⊥
 
@@ -218,7 +219,7 @@ pub record Judges (site : SitePlan) (a b : ProcRecord) : Type 0 where
   pub empty : a.hand ≡ None
   pub asked : Asks site a (asks.AsksJudgement message)
   pub later : a.stamp < stamp
-  pub answer : IsSendAnswer reply
+  pub answer : IsVerdict reply
   pub holds : HandFits site.lanes a.process (judged_hand message reply None)
   pub becomes : b ≡ stepped (judged_process reply a.process) (judged_hand message reply None) (desk_event a.who stamp 1 [] (given_by_judge reply)) a
 

@@ -186,10 +186,10 @@ fn turn<K: Keeper, G: Gate, R: Wait>(
 /// message in hand that the node has a lane with its receiver and label, and that it is in range. It leaves these so.
 ///
 /// An event that touches no object is at the stamp after the process's own last one; where there is none left the turn waits
-/// forever, as a lock does. It also waits forever where the desk answers what the process's own desk never does, since another call
-/// may take its lock at any time and no contract tells its state: a number that the mapped category can't have in a table with the
-/// numbers of the usable names, a delegation longer than a register, or certificates for a message that has no lane or may not
-/// carry them. So it does where an operation asks for nothing, or a step inside the process leaves names without a table; none does.
+/// forever, as a lock does. It also waits forever where the desk gives a mapped category a number that it can't have in a table with
+/// the numbers of the usable names, which the process's own desk never does: another call may take its lock at any time, and no
+/// contract tells its table. So it does where an operation asks for nothing, or a step inside the process leaves names without a
+/// table; none does.
 ///
 /// # Errors
 ///
@@ -197,7 +197,7 @@ fn turn<K: Keeper, G: Gate, R: Wait>(
 ///   rose.
 /// - `NoMemory` where memory runs out. The keeper is as it was.
 ///
-/// The process is as it was after either, but for room. Where its message was judged before, the desk's look stays.
+/// Nothing is entered after either, and the process is as it was, but for room.
 pub fn proc_turn<K: Keeper, G: Gate, R: Wait>(
     rt: &R,
     gate: &G,

@@ -24,9 +24,6 @@ use ds_share::{DeskAct, DeskReply, Receipt, TurnFault};
 use std::alloc::AllocError;
 use std::sync::Wait;
 
-/// Most bytes of a register.
-const REGISTER_LIMIT: usize = 16384;
-
 /// The event of a process of which the desk did an act. It takes no memory.
 pub(crate) fn desk_event(process: &RecordedProc, receipt: Receipt) -> Recorded
     ensures { result ≡ desk_event process.now.proc.who receipt.stamp receipt.act receipt.body receipt.given }
@@ -36,8 +33,7 @@ pub(crate) fn desk_event(process: &RecordedProc, receipt: Receipt) -> Recorded
 }
 
 /// A delegation was made, and its bytes go into a register, or it is refused. It takes no memory.
-fn delegated_turn<R: Wait>(
-    rt: &R,
+fn delegated_turn(
     process: &mut RecordedProc,
     event: Recorded,
     category: Category,
@@ -54,10 +50,7 @@ fn delegated_turn<R: Wait>(
         process.old.proc.hand event process.old.proc }
 {
     match reply {
-        DeskReply::Made(bytes) => {
-            wait_for(rt, bytes.len() <= REGISTER_LIMIT);
-            process.delegated(event, category, host, reg, bytes);
-        }
+        DeskReply::Made(bytes) => process.delegated(event, category, host, reg, bytes),
         DeskReply::Refused(rule) => process.refused(event, rule),
         _ => unreachable!(),
     }
@@ -153,7 +146,7 @@ fn replied_turn<R: Wait>(
 {
     match request {
         DeskRequest::Delegating { category, .. } => {
-            delegated_turn(rt, process, event, *category, reg, host, reply);
+            delegated_turn(process, event, *category, reg, host, reply);
         }
         DeskRequest::Importing(_) => imported_turn(process, event, reply),
         DeskRequest::Mapping(category) => {

@@ -3,73 +3,24 @@
 ghost use Rattle.std.specs.Prelude.{◌≡◌, ◌≢◌, ◌≤◌, ◌<◌, Err, None, IfErr, IfOk, IfSome, IsTrue, OnErr, OnOk, length};
 ghost use Rattle.ds_base.specs.Counts.{Rose};
 ghost use Rattle.ds_script.specs.Fits.{IsShort};
-ghost use Rattle.ds_msg.specs.Ranges.{CertsFit, SpellsDelegation, is_among};
-ghost use Rattle.ds_share.specs.Desks.{IsSendAnswer};
 ghost use Rattle.ds_actor.specs.declared.ask.ProcessAsk.TheVariants as asks;
 ghost use Rattle.ds_turn.specs.Nodes.{seen_of};
 ghost use Rattle.ds_turn.specs.ProcRecords.{HasMemory, IsGoing, stepped};
 ghost use Rattle.ds_turn.specs.ProcAsks.{IsAsking};
-ghost use Rattle.ds_turn.specs.ProcCerts.{Carries, IsNextCert, number_at, send_act};
+ghost use Rattle.ds_turn.specs.ProcCerts.{IsInRange, IsVerdict, number_at, send_act};
 ghost use Rattle.ds_turn.specs.ProcTurns.{Judges, judged_hand, judged_process};
 
 use crate::node::Node;
 use crate::proc_acting::desk_event;
-use crate::proc_asking::wait_for;
 use crate::proc_record::RecordedProc;
 use ds_actor::Site;
 use ds_base::Keeper;
-use ds_cert::{CertFault, Delegation};
 use ds_merge::Recorded;
 use ds_msg::{CertBytes, Message};
 use ds_share::{DeskAct, DeskReply, SharedLane, TurnFault};
 use ds_wire::Bytes;
 use std::alloc::{AllocError, Global};
 use std::sync::Wait;
-
-/// Whether these bytes spell a delegation. `AllocError` where memory runs out.
-fn spells_delegation(alloc: Global, bytes: &[u8]) -> Result<bool, AllocError>
-    ensures { IfOk result (λ is. IsTrue is → SpellsDelegation bytes.now) }
-{
-    match Delegation::decode(alloc, bytes) {
-        Ok(delegation) => {
-            delegation.show_fits();
-            Ok(true)
-        }
-        Err(CertFault::NoMemory) => Err(AllocError),
-        Err(_) => Ok(false),
-    }
-}
-
-/// Whether the bytes are among those of a list.
-fn is_among(bytes: &[u8], others: &[Bytes]) -> bool
-    ensures { result ≡ is_among bytes.now others.now }
-{
-    others.iter().any(|other| bytes == other.as_slice())
-}
-
-/// Whether these bytes spell a delegation and aren't among those before. `AllocError` where memory runs out.
-fn is_next(alloc: Global, bytes: &Bytes, before: &[Bytes]) -> Result<bool, AllocError>
-    ensures { IfOk result (λ is. IsTrue is → IsNextCert before.now bytes.now) }
-{
-    if is_among(bytes.as_slice(), before) {
-        return Ok(false);
-    }
-    spells_delegation(alloc, bytes.as_slice())
-}
-
-/// Whether a message may carry these. `AllocError` where memory runs out.
-fn are_fit(alloc: Global, certs: &CertBytes) -> Result<bool, AllocError>
-    ensures { IfOk result (λ are. IsTrue are → CertsFit certs.now) }
-{
-    let _count = certs.len();
-    let items = certs.as_slice();
-    for place in 0..items.len() {
-        if !is_next(alloc, &items[place], &items[..place])? {
-            return Ok(false);
-        }
-    }
-    Ok(true)
-}
 
 /// The message with these certificates.
 fn with_certs(mut message: Message, certs: CertBytes) -> Message
@@ -106,46 +57,29 @@ fn send_act(
     })
 }
 
-/// The desk judged a message: with its certificates it comes to the hand of the process, or it is refused. `AllocError` where
-/// memory runs out; the process is the same then.
-fn judged_turn<R: Wait>(
-    rt: &R,
-    process: &mut RecordedProc,
-    event: Recorded,
-    message: Message,
-    place: Option<usize>,
-    reply: DeskReply,
-) -> Result<(), AllocError>
+/// The desk judged a message: with its certificates it comes to the hand of the process, or it is refused. It takes no memory.
+fn judged_turn(process: &mut RecordedProc, event: Recorded, message: Message, reply: DeskReply)
     requires memory { HasMemory process.old }
     requires going { IsGoing process.old.proc.process }
     requires later { process.old.proc.stamp < event.stamp }
-    requires answer { IsSendAnswer reply }
+    requires answer { IsVerdict reply }
     requires short { IsShort message.payload }
-    ensures ok { OnOk result (process.new.proc ≡ stepped (judged_process reply process.old.proc.process)
-        (judged_hand message reply process.old.proc.hand) event process.old.proc) }
-    ensures holds { OnOk result (Carries place message reply) }
-    ensures err { OnErr result (process.new.proc ≡ process.old.proc) }
+    ensures process { process.new.proc ≡ stepped (judged_process reply process.old.proc.process)
+        (judged_hand message reply process.old.proc.hand) event process.old.proc }
+    ensures range { IsInRange message reply }
 {
     match reply {
         DeskReply::Attached(certs) => {
-            let fits = are_fit(process.allocator(), &certs)?;
-            wait_for(rt, fits);
-            wait_for(rt, place.is_some());
             process.hold(with_certs(message, certs));
             process.enter(event);
-            Ok(())
         }
-        DeskReply::Refused(rule) => {
-            process.refused(event, rule);
-            Ok(())
-        }
+        DeskReply::Refused(rule) => process.refused(event, rule),
         _ => unreachable!(),
     }
 }
 
 /// A turn of a process that sends a message to another host: the desk judges it, and it comes to the hand with the certificates
-/// that go with it, or is refused. The process is the same after a fault; where the message was judged before, the desk's look
-/// stays.
+/// that go with it, or is refused. The process is the same after a fault.
 ///
 /// # Errors
 ///
@@ -171,6 +105,6 @@ pub(crate) fn judge_turn<K: Keeper, R: Wait>(
         .desk
         .act(rt, keeper, process.stamp(), process.who(), act)?;
     let event = desk_event(process, receipt);
-    judged_turn(rt, process, event, message, place, reply)?;
+    judged_turn(process, event, message, reply);
     Ok(())
 }
