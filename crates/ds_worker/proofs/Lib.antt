@@ -1,0 +1,4 @@
+mod Running
+mod Turning
+mod Logging
+mod Growing

@@ -1,0 +1,15 @@
+//! What one thread does in a phase with an actor of a host: turns over its host's shared objects, each recorded, until one makes no
+//! event or the limit is reached. An actor's whole record is a run of its actor's turns.
+#![tactic(auto)]
+
+mod conn_work;
+mod lane_work;
+mod limit;
+mod proc_work;
+mod run_laws;
+
+pub use conn_work::work_conn;
+pub use lane_work::work_lane;
+pub use limit::TURN_LIMIT;
+pub use proc_work::work_proc;
+pub use run_laws::{connections_run_on, records_grow, runs_join};
