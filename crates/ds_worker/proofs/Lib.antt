@@ -2,3 +2,4 @@ mod Running
 mod Turning
 mod Logging
 mod Growing
+mod Working

@@ -2,14 +2,20 @@
 //! event or the limit is reached. An actor's whole record is a run of its actor's turns.
 #![tactic(auto)]
 
+mod all_work;
 mod conn_work;
 mod lane_work;
 mod limit;
 mod proc_work;
 mod run_laws;
+mod task;
+mod task_work;
 
+pub use all_work::phase;
 pub use conn_work::work_conn;
 pub use lane_work::work_lane;
 pub use limit::TURN_LIMIT;
 pub use proc_work::work_proc;
 pub use run_laws::{connections_run_on, records_grow, runs_join};
+pub use task::{Task, TaskActor};
+pub use task_work::work;
