@@ -110,7 +110,7 @@ offered_who k None = failed_who k k.reader.failure
 offered_who k (Some o) = refl
 
 -- a call of read leaves the actor
-read_who : (k : Connection) (r : Result Offer ReadEnd) (m : Connection) → read_step k ≡ record { answer = r; conn = m } → m.who ≡ k.who
+pub read_who : (k : Connection) (r : Result Offer ReadEnd) (m : Connection) → read_step k ≡ record { answer = r; conn = m } → m.who ≡ k.who
 read_who k r m e = subst (λ (t : ReadStep). t.conn.who ≡ k.who) e (offered_who k k.offered)
 
 settled_who : (k : Connection) (b : Bool) (o : Option OfferedFrame) → (settled_as b o k).who ≡ k.who

@@ -2,4 +2,6 @@ mod Running
 mod Turning
 mod Logging
 mod Growing
+mod Stopping
 mod Working
+mod Tasking

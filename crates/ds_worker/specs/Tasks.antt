@@ -14,8 +14,9 @@ use Rattle.ds_turn.specs.ConnTurns.{LeadsTo}
 use Rattle.ds_worker.specs.declared.task.Task.{Task}
 use Rattle.ds_worker.specs.declared.task.TaskActor.{TaskActor}
 use Rattle.ds_worker.specs.declared.task.TaskActor.TheVariants.{Proc, Lane, Conn}
-use Rattle.ds_worker.specs.Runs.{IsSame, Stopped, Worked}
-use Rattle.ds_worker.specs.Actors.{ConnLeft, ConnRests, ConnTurned, LaneRests, ProcRests}
+use Rattle.ds_worker.specs.Runs.{IsSame, Ran, Stopped, Worked}
+use Rattle.ds_worker.specs.Logs.{Log, log_of_conn, log_of_lane, log_of_proc}
+use Rattle.ds_worker.specs.Actors.{ConnLeft, ConnRan, ConnRests, ConnTurned, LaneRests, ProcRests}
 
 -- WHAT IT NEEDS
 
@@ -72,3 +73,23 @@ pub record HasWorked {K : Type 0} (faults_of : K → ℕ) (nodes : List Node) (a
   pub node : Node
   pub there : slice_get nodes a.host ≡ Some node
   pub worked : IsWorked faults_of node b.fault b.made a.actor b.actor
+
+-- MANY PHASES
+
+-- an actor of the same kind, after so many events: turns of its kind, one after another, and of a connection arrivals too
+abbrev pub HasRun : {K : Type 0} → Node → (count : ℕ) → (old new : TaskActor K) → Type 0
+HasRun node count (Proc process keeper) (Proc next kept) = Ran (TookProcTurn (seen_of node)) count process.proc next.proc
+HasRun node count (Proc process keeper) (Lane place next kept) = ⊥
+HasRun node count (Proc process keeper) (Conn next) = ⊥
+HasRun node count (Lane place worker keeper) (Proc next kept) = ⊥
+HasRun node count (Lane place worker keeper) (Lane same next kept) = (same ≡ place) × Ran TookTurn count worker.lane next.lane
+HasRun node count (Lane place worker keeper) (Conn next) = ⊥
+HasRun node count (Conn conn) (Proc next kept) = ⊥
+HasRun node count (Conn conn) (Lane place next kept) = ⊥
+HasRun node count (Conn conn) (Conn next) = ConnRan node.boxes.items count conn.link next.link
+
+-- what the actor recorded
+abbrev pub log_of_actor : {K : Type 0} → TaskActor K → Log
+log_of_actor (Proc process keeper) = log_of_proc process.proc
+log_of_actor (Lane place worker keeper) = log_of_lane worker.lane
+log_of_actor (Conn conn) = log_of_conn conn.link

@@ -9,6 +9,7 @@ mod limit;
 mod proc_work;
 mod run_laws;
 mod task;
+mod task_laws;
 mod task_work;
 
 pub use all_work::phase;
@@ -18,4 +19,5 @@ pub use limit::TURN_LIMIT;
 pub use proc_work::work_proc;
 pub use run_laws::{connections_run_on, records_grow, runs_join};
 pub use task::{Task, TaskActor};
+pub use task_laws::{tasks_grow, tasks_run};
 pub use task_work::work;

@@ -1,6 +1,6 @@
 use Rattle.std.proofs.Common.{◌≡◌, ◌+◌, length, ap, arith}
 use Rattle.ds_worker.specs.Actors.{ConnLeft, ConnTurned}
-use Rattle.ds_worker.proofs.Working.{length_of_conn, stopped_as}
+use Rattle.ds_worker.proofs.Stopping.{length_of_conn, stopped_as}
 use Rattle.ds_worker.proofs.task_work.conn_at.Goals as goal
 
 pub made_since-requires-clause-grew : goal.made_since-requires-clause-grew

@@ -1,7 +1,8 @@
 use Rattle.std.proofs.Common.{◌≡◌, ◌+◌, length, ap, Err, arith}
 use Rattle.ds_turn.specs.LaneTurns.{TookTurn}
 use Rattle.ds_worker.specs.Runs.{IsSame}
-use Rattle.ds_worker.proofs.Working.{kept_so, length_of_lane, stopped_as, worker_of}
+use Rattle.ds_worker.proofs.Stopping.{length_of_lane, stopped_as}
+use Rattle.ds_worker.proofs.Working.{kept_so, worker_of}
 use Rattle.ds_worker.proofs.task_work.lane_at.Goals as goal
 
 pub made_since-requires-clause-grew : goal.made_since-requires-clause-grew

@@ -2,7 +2,8 @@ use Rattle.std.proofs.Common.{◌≡◌, ◌+◌, length, ap, Err, arith}
 use Rattle.ds_turn.specs.Nodes.{seen_of}
 use Rattle.ds_turn.specs.ProcTurns.{TookProcTurn}
 use Rattle.ds_worker.specs.Runs.{IsSame}
-use Rattle.ds_worker.proofs.Working.{kept_so, length_of_proc, stopped_as}
+use Rattle.ds_worker.proofs.Stopping.{length_of_proc, stopped_as}
+use Rattle.ds_worker.proofs.Working.{kept_so}
 use Rattle.ds_worker.proofs.task_work.proc_at.Goals as goal
 
 pub made_since-requires-clause-grew : goal.made_since-requires-clause-grew
