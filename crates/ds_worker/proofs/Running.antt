@@ -77,3 +77,6 @@ made_one P Q false holds e = absurd cc
 pub made_none : (P Q : Type 0) (made : Bool) → MatchBool made P Q → made ≡ false → Q
 made_none P Q true holds e = absurd cc
 made_none P Q false holds e = holds
+
+-- for a loop of turns that counts them
+pub ruleset turns_in_a_loop = (ran_none, ran_more, worked_less, worked_all)

@@ -13,6 +13,7 @@ use Rattle.ds_turn.specs.ConnRecords.{ConnRecord}
 use Rattle.ds_turn.specs.ConnTurns.{Rests, TookConnTurn}
 use Rattle.ds_turn.specs.ConnAsks.{AsksInTurn}
 use Rattle.ds_worker.specs.Actors.{ConnRests, ConnTurned}
+use Rattle.ds_worker.proofs.Running.{ran_more, ran_none, worked_all, worked_less}
 
 -- LANES
 
@@ -36,6 +37,9 @@ same_lane lane a b turn same = subst (λ (cert : LaneCert). IsSameLane lane cert
 -- so does one that made none
 pub still_lane : (lane : LaneCert) (a b : LaneRecord) → b ≡ a → IsSameLane lane a.worker.cert → IsSameLane lane b.worker.cert
 still_lane lane a b still same = subst (λ (r : LaneRecord). IsSameLane lane r.worker.cert) (sym still) same
+
+-- for a loop of turns that counts them
+pub ruleset lane_turns_in_a_loop = (ran_none, ran_more, worked_less, worked_all, same_lane, still_lane)
 
 -- CONNECTIONS
 

@@ -7,13 +7,14 @@ use Rattle.ds_inlet.specs.Connections.{arrived_more}
 use Rattle.ds_actor.specs.Sites.{SitePlan}
 use Rattle.ds_turn.specs.declared.node.BoxSeat.{BoxSeat}
 use Rattle.ds_turn.specs.ProcRecords.{ProcRecord}
-use Rattle.ds_turn.specs.ProcTurns.{Rests}
+use Rattle.ds_turn.specs.ProcTurns.{Rests, TookProcTurn}
 use Rattle.ds_turn.specs.LaneRecords.{LaneRecord}
+use Rattle.ds_turn.specs.LaneTurns.{TookTurn}
 use Rattle.ds_turn.specs.ConnRecords.{ConnRecord, recorded}
 use Rattle.ds_turn.specs.ConnTurns.{KeepsBack, TookConnTurn, arrive_event}
 use Rattle.ds_turn.specs.ConnTurns as turns
 use Rattle.ds_turn.specs.ConnAsks.{Asks, AsksInTurn, IsSamePlain}
-use Rattle.ds_worker.specs.Runs.{Ran}
+use Rattle.ds_worker.specs.Runs.{IsSame, Ran, Stopped, Worked}
 
 -- KEEPERS
 
@@ -23,17 +24,32 @@ SparesKeeper fault count old new = fault ≢ faults.KeeperFault → count ≡ 0 
 
 -- PROCESSES
 
--- nothing is in its hand, and its script has ended, its operation leads to its own place, or the mailbox from which it takes is
--- empty
+-- nothing is in its hand, and its script has ended, its operation leads to its own place, or its mailbox is empty
 pub record ProcRests (site : SitePlan) (r : ProcRecord) : Type 0 where
   pub empty : r.hand ≡ None
   pub why : Rests site r
+
+-- after so many turns in a phase
+abbrev pub ProcWorked : SitePlan → (count : ℕ) → (old new : ProcRecord) → Type 0
+ProcWorked site = Worked (TookProcTurn site) (ProcRests site)
+
+-- and so where a fault stopped them: that turn changed nothing
+abbrev pub ProcStopped : SitePlan → (count : ℕ) → (old new : ProcRecord) → Type 0
+ProcStopped site = Stopped (TookProcTurn site) IsSame
 
 -- LANES
 
 -- nothing is in its hand
 abbrev pub LaneRests : LaneRecord → Type 0
 LaneRests r = r.worker.hand ≡ []
+
+-- after so many turns in a phase
+abbrev pub LaneWorked : (count : ℕ) → (old new : LaneRecord) → Type 0
+LaneWorked = Worked TookTurn LaneRests
+
+-- and so where a fault stopped them: that turn changed nothing
+abbrev pub LaneStopped : (count : ℕ) → (old new : LaneRecord) → Type 0
+LaneStopped = Stopped TookTurn IsSame
 
 -- CONNECTIONS
 
@@ -47,10 +63,18 @@ pub record ConnRests (boxes : List BoxSeat) (r : ConnRecord) : Type 0 where
   pub why : turns.Rests r r
   pub waits : AsksInTurn boxes r r false
 
--- what is left where memory ran out: the plain world's connection is the same, and a frame that was read may stay offered
+-- what is left where memory ran out: the plain world's connection is the same; a frame that was read may stay offered
 pub record ConnLeft (a b : ConnRecord) : Type 0 where
   pub keeps : KeepsBack a b
   pub plain : IsSamePlain a.conn b.conn
+
+-- after so many turns in a phase
+abbrev pub ConnWorked : List BoxSeat → (count : ℕ) → (old new : ConnRecord) → Type 0
+ConnWorked boxes = Worked (ConnTurned boxes) (ConnRests boxes)
+
+-- and so where memory ran out
+abbrev pub ConnStopped : List BoxSeat → (count : ℕ) → (old new : ConnRecord) → Type 0
+ConnStopped boxes = Stopped (ConnTurned boxes) ConnLeft
 
 -- The next bytes of its stream arrived, at a stamp above its last one and above this one.
 pub record Arrives (a b : ConnRecord) : Type 0 where

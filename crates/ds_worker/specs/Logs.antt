@@ -34,7 +34,7 @@ pub record IsEventOf (who : Actor) (e : Recorded) : Type 0 where
   pub actor : e.who ≡ who
   pub entry : IsEntryOf e e.touched
 
--- So many events of the actor more are behind the old ones; their stamps rise above its last one, and the last of them is kept.
+-- So many events of the actor more are behind the old ones, and their stamps rise above its last one.
 pub record Grew (count : ℕ) (old new : Log) : Type 0 where
   pub who : new.who ≡ old.who
   pub more : List Recorded

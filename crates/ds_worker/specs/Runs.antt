@@ -13,13 +13,13 @@ unfoldable pub Ran : {X : Type 0} → (Turn : X → X → Type 0) → (count : �
 Ran Turn zero old new = new ≡ old
 Ran Turn (suc n) old new = IsTurnAfter Turn (Ran Turn n old) new
 
--- What one thread does with an actor in a phase: so many turns, and fewer than the limit only where the actor then rests.
+-- What one thread does with an actor in a phase: so many turns, and fewer than the limit only where it rests then.
 pub record Worked {X : Type 0} (Turn : X → X → Type 0) (Rest : X → Type 0) (count : ℕ) (old new : X) : Type 0 where
   pub few : count ≤ TURN_LIMIT
   pub ran : Ran Turn count old new
   pub rests : count < TURN_LIMIT → Rest new
 
--- The same where a turn met a fault: so many turns before it, fewer than the limit, which stay, and what the fault left.
+-- The same where a turn met a fault: so many turns before it, fewer than the limit, which stay, and what it left.
 pub record Stopped {X : Type 0} (Turn Left : X → X → Type 0) (count : ℕ) (old new : X) : Type 0 where
   pub few : count < TURN_LIMIT
   pub mid : X

@@ -33,7 +33,8 @@ pub fn phase<K: Keeper + Send, G: Gate + Sync, R: Threads + Wait + Sync>(
         workers.max(1) as usize,
         &|_place: usize, task: &mut Task<K>|
             requires { MayWork nodes.now task.now }
-            ensures { HasWorked K.faults nodes.entry.now task.entry.now task.exit.now × MayWork nodes.entry.now task.exit.now }
+            ensures { HasWorked K.faults nodes.entry.now task.entry.now task.exit.now
+                × MayWork nodes.entry.now task.exit.now }
         { work(rt, gate, nodes, task) },
     );
 }

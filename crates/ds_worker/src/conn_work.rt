@@ -3,8 +3,7 @@
 ghost use Rattle.std.specs.Prelude.{◌≡◌, IfOk, OnErr, ℕ};
 ghost use Rattle.std.specs.Bool.{MatchBool};
 ghost use Rattle.ds_turn.specs.ConnTurns.{LeadsTo};
-ghost use Rattle.ds_worker.specs.Actors.{ConnLeft, ConnRests, ConnTurned};
-ghost use Rattle.ds_worker.specs.Runs.{Stopped, Worked};
+ghost use Rattle.ds_worker.specs.Actors.{ConnLeft, ConnRests, ConnStopped, ConnTurned, ConnWorked};
 
 use crate::limit::TURN_LIMIT;
 use ds_base::Gate;
@@ -29,16 +28,16 @@ fn turn<G: Gate, R: Wait>(
     Ok(made)
 }
 
-/// Lets a connection make turns over what the threads of its host share until one makes no event, at most 16. Answers how many
-/// events it made, each of which is recorded; fewer than 16 only where the connection rests.
+/// Lets a connection make turns over what the threads of its host share until one makes no event, at most 16. Answers how
+/// many events it made, each of which is recorded; fewer than 16 only where the connection rests.
 ///
 /// It needs what a turn needs, and leaves it so.
 ///
 /// # Errors
 ///
-/// `AllocError` where memory runs out. What was done before that stays and is recorded. The turn that met it entered nothing; a
-/// frame that it read stays offered, and a later turn settles it.
-#[tactic(auto, using(crate::proofs::Running::ran_none, crate::proofs::Running::ran_more, crate::proofs::Running::worked_less, crate::proofs::Running::worked_all))]
+/// `AllocError` where memory runs out. What was done before that stays and is recorded. The turn that met it entered
+/// nothing; a frame that it read stays offered, and a later turn settles it.
+#[tactic(auto, using(crate::proofs::Running::turns_in_a_loop))]
 pub fn work_conn<G: Gate, R: Wait>(
     rt: &R,
     gate: &G,
@@ -46,8 +45,8 @@ pub fn work_conn<G: Gate, R: Wait>(
     conn: &mut RecordedConn,
 ) -> Result<u32, AllocError>
     requires leads { LeadsTo node.now conn.old.link.conn }
-    ensures ok { IfOk result (λ n. Worked (ConnTurned node.now.boxes.items) (ConnRests node.now.boxes.items) n conn.old.link conn.new.link) }
-    ensures err { OnErr result ((n : ℕ) × Stopped (ConnTurned node.now.boxes.items) ConnLeft n conn.old.link conn.new.link) }
+    ensures ok { IfOk result (λ n. ConnWorked node.now.boxes.items n conn.old.link conn.new.link) }
+    ensures err { OnErr result ((n : ℕ) × ConnStopped node.now.boxes.items n conn.old.link conn.new.link) }
     ensures leads { LeadsTo node.now conn.new.link.conn }
 {
     for made in 0..TURN_LIMIT {

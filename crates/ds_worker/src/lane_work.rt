@@ -3,9 +3,7 @@
 ghost use Rattle.std.specs.Prelude.{◌≡◌, ◌≤◌, Err, IfErr, IfOk, ℕ};
 ghost use Rattle.ds_base.specs.Counts.{Rose};
 ghost use Rattle.ds_share.specs.SharedLanes.{IsSameLane};
-ghost use Rattle.ds_turn.specs.LaneTurns.{TookTurn};
-ghost use Rattle.ds_worker.specs.Actors.{LaneRests, SparesKeeper};
-ghost use Rattle.ds_worker.specs.Runs.{IsSame, Stopped, Worked};
+ghost use Rattle.ds_worker.specs.Actors.{LaneStopped, LaneWorked, SparesKeeper};
 
 use crate::limit::TURN_LIMIT;
 use ds_base::Keeper;
@@ -13,8 +11,8 @@ use ds_share::{SharedDesk, SharedLane, TurnFault};
 use ds_turn::{RecordedLane, lane_turn};
 use std::sync::Wait;
 
-/// Lets a lane's worker make turns over its lane and its host's desk until one makes no event, at most 16. Answers how many events
-/// it made, each of which is recorded; fewer than 16 only where nothing is in its hand.
+/// Lets a lane's worker make turns over its lane and its host's desk until one makes no event, at most 16. Answers how many
+/// events it made, each of which is recorded; fewer than 16 only where nothing is in its hand.
 ///
 /// It needs what a turn needs, and leaves it so.
 ///
@@ -24,7 +22,7 @@ use std::sync::Wait;
 /// - `NoMemory` where memory runs out. Where that was in the first turn, the keeper is as it was.
 ///
 /// What was done before the fault stays and is recorded, and the turn that met it changed nothing but room.
-#[tactic(auto, using(crate::proofs::Running::ran_none, crate::proofs::Running::ran_more, crate::proofs::Running::worked_less, crate::proofs::Running::worked_all, crate::proofs::Turning::same_lane, crate::proofs::Turning::still_lane))]
+#[tactic(auto, using(crate::proofs::Turning::lane_turns_in_a_loop))]
 pub fn work_lane<K: Keeper, R: Wait>(
     rt: &R,
     keeper: &mut K,
@@ -33,8 +31,8 @@ pub fn work_lane<K: Keeper, R: Wait>(
     worker: &mut RecordedLane,
 ) -> Result<u32, TurnFault>
     requires lane { IsSameLane lane.now worker.old.lane.worker.cert }
-    ensures ok { IfOk result (λ n. Worked TookTurn LaneRests n worker.old.lane worker.new.lane) }
-    ensures err { IfErr result (λ e. (n : ℕ) × Stopped TookTurn IsSame n worker.old.lane worker.new.lane
+    ensures ok { IfOk result (λ n. LaneWorked n worker.old.lane worker.new.lane) }
+    ensures err { IfErr result (λ e. (n : ℕ) × LaneStopped n worker.old.lane worker.new.lane
         × SparesKeeper e n keeper.old keeper.new) }
     ensures lane { IsSameLane lane.now worker.new.lane.worker.cert }
     ensures faults { K.faults keeper.old ≤ K.faults keeper.new }

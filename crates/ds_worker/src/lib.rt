@@ -1,5 +1,5 @@
-//! What one thread does in a phase with an actor of a host: turns over its host's shared objects, each recorded, until one makes no
-//! event or the limit is reached. An actor's whole record is a run of its actor's turns.
+//! What one thread does in a phase with an actor of a host: turns over its host's shared objects, each recorded, until one
+//! makes no event or the limit is reached; and all actors of all hosts at once. All that an actor records is one run.
 #![tactic(auto)]
 
 mod all_work;

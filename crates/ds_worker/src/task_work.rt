@@ -4,13 +4,9 @@ ghost use Rattle.std.specs.Prelude.{◌≡◌, ◌≢◌, ◌+◌, ◌≤◌, So
 ghost use Rattle.ds_share.specs.declared.desk_act.TurnFault.TheVariants.{KeeperFault};
 ghost use Rattle.ds_turn.specs.Nodes.{seen_of};
 ghost use Rattle.ds_turn.specs.ProcAsks.{MayStep};
-ghost use Rattle.ds_turn.specs.ProcTurns.{TookProcTurn};
-ghost use Rattle.ds_turn.specs.LaneTurns.{TookTurn};
 ghost use Rattle.ds_turn.specs.ConnTurns.{LeadsTo};
 ghost use Rattle.ds_worker.specs.declared.limit.TheConstants.{TURN_LIMIT};
-ghost use Rattle.ds_worker.specs.Actors.{ConnLeft, ConnRests, ConnTurned, LaneRests, ProcRests};
-ghost use Rattle.ds_worker.specs.Runs.{IsSame};
-ghost use Rattle.ds_worker.specs.Tasks.{HasWorked, IsKept, IsMade, IsWorked, IsWorkerOf, MayTurn, MayWork};
+ghost use Rattle.ds_worker.specs.Tasks.{ConnMade, HasWorked, IsKept, IsWorked, IsWorkerOf, LaneMade, MayTurn, MayWork, ProcMade};
 
 use crate::conn_work::work_conn;
 use crate::lane_work::work_lane;
@@ -41,7 +37,7 @@ fn proc_at<K: Keeper, G: Gate, R: Wait>(
     keeper: &mut K,
 ) -> (u32, Option<TurnFault>)
     requires may { MayStep (seen_of node.now) process.old.proc }
-    ensures made { IsMade (TookProcTurn (seen_of node.now)) (ProcRests (seen_of node.now)) IsSame result.1 result.0 process.old.proc process.new.proc }
+    ensures made { ProcMade (seen_of node.now) result.1 result.0 process.old.proc process.new.proc }
     ensures kept { IsKept K.faults result.1 result.0 keeper.old keeper.new }
     ensures may { MayStep (seen_of node.now) process.new.proc }
 {
@@ -61,7 +57,7 @@ fn lane_at<K: Keeper, R: Wait>(
     keeper: &mut K,
 ) -> (u32, Option<TurnFault>)
     requires may { IsWorkerOf node.now.lanes.items place worker.old.lane.worker.cert }
-    ensures made { IsMade TookTurn LaneRests IsSame result.1 result.0 worker.old.lane worker.new.lane }
+    ensures made { LaneMade result.1 result.0 worker.old.lane worker.new.lane }
     ensures kept { IsKept K.faults result.1 result.0 keeper.old keeper.new }
     ensures may { IsWorkerOf node.now.lanes.items place worker.new.lane.worker.cert }
 {
@@ -81,7 +77,7 @@ fn conn_at<G: Gate, R: Wait>(
     conn: &mut RecordedConn,
 ) -> (u32, Option<TurnFault>)
     requires leads { LeadsTo node.now conn.old.link.conn }
-    ensures made { IsMade (ConnTurned node.now.boxes.items) (ConnRests node.now.boxes.items) ConnLeft result.1 result.0 conn.old.link conn.new.link }
+    ensures made { ConnMade node.now.boxes.items result.1 result.0 conn.old.link conn.new.link }
     ensures fault { result.1 ≢ Some KeeperFault }
     ensures leads { LeadsTo node.now conn.new.link.conn }
 {
@@ -114,9 +110,9 @@ fn work_at<K: Keeper, G: Gate, R: Wait>(
     }
 }
 
-/// Lets an actor work on its host, one of those nodes: a process by `work_proc`, a lane's worker by `work_lane` over its lane and
-/// its host's desk, a connection by `work_conn`. The task tells then how many events it made, and the fault that it met, if any:
-/// those that it made before that are recorded.
+/// Lets an actor work on its host, one of those nodes: a process by `work_proc`, a lane's worker by `work_lane` over its
+/// lane and its host's desk, a connection by `work_conn`. The task tells then how many events it made, and the fault that it
+/// met, if any: the events before it are recorded and counted.
 ///
 /// It needs that the host is there and what a turn of the actor needs, and leaves it so.
 pub fn work<K: Keeper, G: Gate, R: Wait>(rt: &R, gate: &G, nodes: &[Node], task: &mut Task<K>)
