@@ -20,6 +20,7 @@ use Rattle.ds_model.specs.World.{Conn, Host, Passed}
 use Rattle.ds_model.specs.Inlet.{is_fresh, numbered}
 use Rattle.ds_model.specs.ConnectionStep.{ConnAsk, ConnWaits, ConnInternal, AsksInlet, peer, inlet_of, take_frame, frame_from, fail, accept_item, accept_free, accept}
 use Rattle.ds_model.specs.Step.{HostAndConn, fresh_in, perform_conn}
+use Rattle.ds_model.specs.Access.{NoAccess, access_of_conn_ask, number_access}
 use Rattle.ds_inlet.specs.declared.offer.Offer.{Offer}
 use Rattle.ds_inlet.specs.declared.offer.Offer.TheVariants as offers
 use Rattle.ds_inlet.specs.Hosts.{seen_reading}
@@ -31,7 +32,7 @@ use Rattle.ds_inlet.specs.Accepting.{Accepts, FailsOnce, inlet_plan, inlet_schem
 use Rattle.ds_scheme.specs.TheScheme.{scheme}
 use Rattle.ds_exporter.specs.declared.moved.Moved.TheVariants.{Still, Changed}
 use Rattle.ds_exporter.specs.PlainHosts.{plain_inlet, plain_passed, conn_of}
-use Rattle.ds_exporter.specs.Accepting.{Accepted, KeepsPassed, IsNext, counted, met}
+use Rattle.ds_exporter.specs.Accepting.{Accepted, KeepsPassed, IsNext, Touches, counted, met}
 use Rattle.ds_exporter.proofs.Places.{map_over_at}
 
 -- WHAT ACCEPT ASKS CHANGES THE CONNECTION
@@ -122,9 +123,29 @@ accepts_busy k inlets busy = λ here rows plan x link.
     let w = waits scheme (inlet_plan plan k) (conn_of here rows link k) k.arrived (λ free. busy (free.0, none_passed here rows k.passed free.1)) in
     (ap (λ (a : ConnAsk). perform_conn scheme (inlet_plan plan k) (record x { inlets = map plain_inlet inlets }) (conn_of here rows link k) a) (sym w), (λ still. refl, λ same. refl))
 
+pub touches_busy : (k : Connection) (inlets : List CountedLane) → ((k.hand ≡ []) × (k.passed ≡ None) → ⊥) → Touches k inlets NoAccess
+touches_busy k inlets busy = λ here rows plan x link.
+    ap (access_of_conn_ask (inlet_plan plan k) (record x { inlets = map plain_inlet inlets })) (waits scheme (inlet_plan plan k) (conn_of here rows link k) k.arrived (λ free. busy (free.0, none_passed here rows k.passed free.1)))
+
 module _ (k m : Connection) (inlets : List CountedLane) (none : k.passed ≡ None) where
   asked : (here : PubKey) (rows : List Category) (plan : HostPlan) (link : List ℕ) (a : ConnAsk) → accept scheme (inlet_plan plan k) (plain_conn link None k) k.arrived ≡ a → asks here rows plan link k ≡ a
   asked here rows plan link a is = subst (λ (c : Conn). accept scheme (inlet_plan plan k) c k.arrived ≡ a) (free_is here rows link k none) is
+
+  -- what it touches
+
+  pub touches_waits : ((plan : HostPlan) (link : List ℕ) → accept scheme (inlet_plan plan k) (plain_conn link None k) k.arrived ≡ ConnWaits) → Touches k inlets NoAccess
+  touches_waits is = λ here rows plan x link. ap (access_of_conn_ask (inlet_plan plan k) (record x { inlets = map plain_inlet inlets })) (asked here rows plan link ConnWaits (is plan link))
+
+  pub touches_itself : ((plan : HostPlan) (link : List ℕ) → accept scheme (inlet_plan plan k) (plain_conn link None k) k.arrived ≡ ConnInternal (plain_conn link None m)) → Touches k inlets NoAccess
+  touches_itself is = λ here rows plan x link. ap (access_of_conn_ask (inlet_plan plan k) (record x { inlets = map plain_inlet inlets })) (asked here rows plan link (ConnInternal (plain_conn link None m)) (is plan link))
+
+  pub touches_number : (place number : ℕ)
+      → ((plan : HostPlan) (link : List ℕ) → accept scheme (inlet_plan plan k) (plain_conn link None k) k.arrived ≡ AsksInlet place number (plain_conn link None (settled true m)) (plain_conn link None (settled false m)))
+      → Touches k inlets (number_access place number (slice_get (map plain_inlet inlets) place))
+  touches_number place number is = λ here rows plan x link.
+      ap (access_of_conn_ask (inlet_plan plan k) (record x { inlets = map plain_inlet inlets })) (asked here rows plan link (AsksInlet place number (plain_conn link None (settled true m)) (plain_conn link None (settled false m))) (is plan link))
+
+  -- what becomes of both
 
   pub accepts_waits : ((plan : HostPlan) (link : List ℕ) → accept scheme (inlet_plan plan k) (plain_conn link None k) k.arrived ≡ ConnWaits) → m ≡ k → Accepted Still k m inlets inlets
   accepts_waits is same = λ here rows plan x link.
@@ -270,7 +291,7 @@ keeps_all : (k : Connection) → KeepsPassed k k
 keeps_all k = record { who = refl; here = refl; inlets = refl; arrived = refl; passed = refl; hello = λ h. h }
 
 pub next_busy : (stamp : ℕ) (k : Connection) (inlets : List CountedLane) → ((k.hand ≡ []) × (k.passed ≡ None) → ⊥) → IsNext Still stamp k k inlets inlets
-next_busy stamp k inlets busy = record { accepted = accepts_busy k inlets busy; keeps = keeps_all k; counts = inl refl; still = λ s. (refl, refl) }
+next_busy stamp k inlets busy = record { accepted = accepts_busy k inlets busy; keeps = keeps_all k; counts = inl (refl, touches_busy k inlets busy); still = λ s. (refl, refl) }
 
 module _ (stamp : ℕ) (k m : Connection) (inlets : List CountedLane) (none : k.passed ≡ None) where
   -- what a call of read says of the plain world's accept
@@ -280,7 +301,7 @@ module _ (stamp : ℕ) (k m : Connection) (inlets : List CountedLane) (none : k.
   pub next_hello : Reads k (Ok offers.Hello) m → Says (Ok offers.Hello) → IsNext Changed stamp k m inlets inlets
   next_hello reads says =
       let f = read_facts k (Ok offers.Hello) m reads in
-      record { accepted = accepts_itself k m inlets none (λ plan link. says scheme plan link) (f.passed ∙ none); keeps = keeps_read k m (Ok offers.Hello) f; counts = inl refl; still = λ s. absurd cc }
+      record { accepted = accepts_itself k m inlets none (λ plan link. says scheme plan link) (f.passed ∙ none); keeps = keeps_read k m (Ok offers.Hello) f; counts = inl (refl, touches_itself k m inlets none (λ plan link. says scheme plan link)); still = λ s. absurd cc }
 
   pub next_frame : (place number : ℕ) → Reads k (Ok (offers.Frame place number)) m → Says (Ok (offers.Frame place number)) → lane_inlet_of m.inlets m.reader.lane ≡ Some place
       → IsNext Changed stamp k (settled (fresh_in number (slice_get (map plain_inlet inlets) place)) m) inlets (at place (counted stamp m.who number) inlets)
@@ -290,14 +311,14 @@ module _ (stamp : ℕ) (k m : Connection) (inlets : List CountedLane) (none : k.
       record {
         accepted = accepts_number k m inlets none place number stamp m.who (λ plan link. says scheme plan link) (free_settled m true free) (free_settled m false free);
         keeps = keeps_settled k m (Ok (offers.Frame place number)) (fresh_in number (slice_get (map plain_inlet inlets) place)) place f there;
-        counts = inr (place, number, ap (λ (who : Actor). at place (counted stamp who number) inlets) f.who);
+        counts = inr (place, number, ap (λ (who : Actor). at place (counted stamp who number) inlets) f.who, touches_number k m inlets none place number (λ plan link. says scheme plan link));
         still = λ s. absurd cc;
       }
 
   pub next_open : Reads k (Err ends.NotYet) m → Says (Err ends.NotYet) → IsNext Still stamp k m inlets inlets
   next_open reads says =
       let f = read_facts k (Err ends.NotYet) m reads in
-      record { accepted = accepts_waits k m inlets none (λ plan link. says scheme plan link) f.answer; keeps = keeps_read k m (Err ends.NotYet) f; counts = inl refl; still = λ s. (f.answer, refl) }
+      record { accepted = accepts_waits k m inlets none (λ plan link. says scheme plan link) f.answer; keeps = keeps_read k m (Err ends.NotYet) f; counts = inl (refl, touches_waits k m inlets none (λ plan link. says scheme plan link)); still = λ s. (f.answer, refl) }
 
   pub next_fails : (cause : Cause) (place : ℕ) → is_some k.reader.failure ≡ false → Reads k (Err (ends.BadFrame cause place)) m → Says (Err (ends.BadFrame cause place)) → IsNext Changed stamp k m inlets inlets
   next_fails cause place fine reads says = go k.reader.failure refl fine
@@ -309,7 +330,7 @@ module _ (stamp : ℕ) (k m : Connection) (inlets : List CountedLane) (none : k.
           record {
             accepted = accepts_itself k m inlets none (λ plan link. subst (λ (o : Option Failure). FailsOnce link o m (accept scheme (inlet_plan plan k) (plain_conn link None k) k.arrived)) is (says scheme plan link)) (f.passed ∙ none);
             keeps = keeps_read k m (Err (ends.BadFrame cause place)) f;
-            counts = inl refl;
+            counts = inl (refl, touches_itself k m inlets none (λ plan link. subst (λ (o : Option Failure). FailsOnce link o m (accept scheme (inlet_plan plan k) (plain_conn link None k) k.arrived)) is (says scheme plan link)));
             still = λ s. absurd cc;
           }
 

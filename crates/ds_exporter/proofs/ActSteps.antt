@@ -25,6 +25,7 @@ use Rattle.ds_model.specs.Scheme.{Scheme, delegation_by}
 use Rattle.ds_model.specs.Plan.{HostPlan}
 use Rattle.ds_model.specs.Desk.{Act, Delegating, Importing, Mapping, Desk, DeskEntry, Delegated, Imported, Mapped, Reply, Local, Refuse, Made, Done, desk_after, entry_unless, import_entry, import_rule, is_good, reply_of, store_limit}
 use Rattle.ds_model.specs.World.{Process, Host}
+use Rattle.ds_model.specs.Access.{InDesk}
 use Rattle.ds_model.specs.ProcessStep.{PublicAct, act_after_reply, noted}
 use Rattle.ds_desk.specs.Desks.{IsReplay, entered}
 use Rattle.ds_scheme.specs.TheScheme.{scheme}
@@ -33,12 +34,12 @@ use Rattle.ds_exporter.specs.PlainHosts.{site_of, plain_process}
 use Rattle.ds_exporter.specs.Conditions.{AreNumbered, IsFit, IsNumbered}
 use Rattle.ds_exporter.specs.Acting.{JoinsAt, MapsSo, answer_of, delegated_proc, entry_of, imported_proc, mapped_proc}
 use Rattle.ds_exporter.specs.Stamping.{IsBefore, IsUpTo, last_of_desk}
-use Rattle.ds_exporter.specs.Entering.{Enters}
+use Rattle.ds_exporter.specs.Entering.{Enters, step_access}
 use Rattle.ds_exporter.specs.Stepping.{Asks, IsFree, IsStepped, always, proc_actor, refused_proc}
-use Rattle.ds_exporter.proofs.Entering.{enters_desk}
+use Rattle.ds_exporter.proofs.Entering.{enters_beside, enters_by, enters_desk}
 use Rattle.ds_exporter.proofs.Places.{all_get, there_is}
 use Rattle.ds_exporter.proofs.OneProc.{Keeps, with_proc, fits_proc}
-use Rattle.ds_exporter.proofs.OneStep.{becomes, host_by, moved_on, no_hand_more, performs, site_proc}
+use Rattle.ds_exporter.proofs.OneStep.{becomes, host_by, moved_on, no_hand_more, performs, site_proc, touches}
 use Rattle.ds_exporter.proofs.Stays.{with_entry, rows_after, fits_entry, host_entry, site_entry, conn_entry, below_entry, numbers_stay, rows_grow}
 
 -- THE HOST
@@ -65,10 +66,11 @@ module _ (e : HostState) (p stamp : ℕ) (who : Actor) (act : Act) (reg host : �
       let more = below_entry e stamp who (entry_of e act) b last in
       record { desk = more.desk; boxes = more.boxes; lanes = more.lanes; inlets = more.inlets }
 
-  entered_done : who ≡ proc_actor e.host p → Enters stamp (proc_actor e.host p) e done
-  entered_done is =
-      let more = enters_desk stamp who (entry_of e act) e in
-      subst (λ (a : Actor). Enters stamp a e done) is (record { desk = more.desk; boxes = more.boxes; lanes = more.lanes; inlets = more.inlets })
+  entered_done : who ≡ proc_actor e.host p → Asks p e (always (PublicAct act reg host)) → (x : HostProcess) → slice_get e.procs p ≡ Some x → Enters stamp (proc_actor e.host p) (step_access p e) e done
+  entered_done is asks x h =
+      subst (λ (a : Actor). Enters stamp a (step_access p e) e done) is
+      (enters_by stamp who (step_access p e) (InDesk (entry_of e act)) e done (touches e p x h (always (PublicAct act reg host)) asks)
+      (enters_beside stamp who (InDesk (entry_of e act)) e acted (at p f e.procs) e.conns (enters_desk stamp who e (entry_of e act))))
 
   pub stepped_done : who ≡ proc_actor e.host p → Asks p e (always (PublicAct act reg host)) → IsBefore stamp e → last_of_desk (entered stamp who (entry_of e act) e.desk) ≤ stamp → IsStepped stamp p e done
   stepped_done acts asks below last = there_is (IsStepped stamp p e done) e.procs p within (λ x h. record {
@@ -80,7 +82,7 @@ module _ (e : HostState) (p stamp : ℕ) (who : Actor) (act : Act) (reg host : �
     conns = refl;
     named = λ link place. conn_entry e stamp who (entry_of e act) fit link place;
     stamps = below_done below last;
-    entered = entered_done acts;
+    entered = entered_done acts asks x h;
   })
 
 -- THE PROCESS

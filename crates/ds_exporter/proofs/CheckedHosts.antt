@@ -12,6 +12,7 @@ use Rattle.ds_model.specs.World.{Worker, Host, Waiting as PlainWaiting}
 use Rattle.ds_model.proofs.Places.{at_here}
 use Rattle.ds_model.specs.WorkerStep.{AsksRecheck, checked_after_reply, checked_lines, lane_ask_hand, rechecked}
 use Rattle.ds_model.specs.Step.{perform_lane, step_lane, lined, checked_in}
+use Rattle.ds_model.specs.Access.{InDesk, access_of_lane, access_of_lane_ask}
 use Rattle.ds_desk.specs.Desks.{IsReplay, entered}
 use Rattle.ds_lane.specs.declared.batch.Waiting.{Waiting}
 use Rattle.ds_lane.specs.declared.worker_entry.WorkerEntry.{WorkerEntry}
@@ -23,6 +24,7 @@ use Rattle.ds_exporter.specs.Merging.{plain_waiting}
 use Rattle.ds_exporter.specs.PlainHosts.{plain_queue, plain_worker, log_of, host_of, site_of, plan_of_lane}
 use Rattle.ds_exporter.specs.Checking.{lane_rule, checked_as, with_checked}
 use Rattle.ds_exporter.specs.Conditions.{IsFit}
+use Rattle.ds_exporter.specs.Entering.{frame_access}
 use Rattle.ds_exporter.specs.Stamping.{IsBefore, IsLaneBefore, last_of_desk}
 use Rattle.ds_exporter.proofs.Places.{map_over_at, map_kept_at, some_is, all_get, there_is}
 use Rattle.ds_exporter.proofs.Stamps.{lane_more}
@@ -110,6 +112,11 @@ module _ (e : HostState) (p stamp : ℕ) (l : HostLane) (stands : slice_get e.la
       ∙ (ap (perform_lane scheme (site_of e) (host_of e) p) (asked (lane_plan (site_of e) p) (plain_hand l.worker.hand) (ap plain_hand some))
       ∙ λ i. checked_under (plan_at i) (worker_at i))
 
+  touches_desk : frame_access p e ≡ InDesk Looked
+  touches_desk =
+      ap (access_of_lane scheme (site_of e) (host_of e) p) worker_at
+      ∙ ap (access_of_lane_ask (host_of e) p) (asked (lane_plan (site_of e) p) (plain_hand l.worker.hand) (ap plain_hand some))
+
   pub checks : (who : Actor) (rule : Option Rule) → rule ≡ lane_rule e.desk.desk l.worker.cert
       → host_of (with_checked stamp p who rule e) ≡ step_lane scheme (site_of e) (host_of e) p (slice_get (host_of e).workers p)
   checks who rule is =
@@ -155,3 +162,9 @@ module _ (e : HostState) (p stamp : ℕ) (within : p < length e.lanes) (below : 
   pub checked_host_moved : host_of (with_checked stamp p who rule e) ≡ host_of e → ⊥
   checked_host_moved same = there_is ⊥ e.lanes p within
       (λ l h. held_cases ⊥ l.worker.hand (some l h) (λ w rest is. hand_changed e p stamp l h w rest is (holds l h).on (all_get (IsLaneBefore stamp) e.lanes p l below.lanes h) who rule same))
+
+-- it touches the desk
+pub checked_touches : (e : HostState) (p stamp : ℕ) → p < length e.lanes → IsBefore stamp e → ((l : HostLane) → slice_get e.lanes p ≡ Some l → 0 < length l.worker.hand)
+    → ((l : HostLane) → slice_get e.lanes p ≡ Some l → IsHolding l.worker) → frame_access p e ≡ InDesk Looked
+checked_touches e p stamp within below some holds = there_is (frame_access p e ≡ InDesk Looked) e.lanes p within
+    (λ l h. held_cases (frame_access p e ≡ InDesk Looked) l.worker.hand (some l h) (λ w rest is. touches_desk e p stamp l h w rest is (holds l h).on (all_get (IsLaneBefore stamp) e.lanes p l below.lanes h)))

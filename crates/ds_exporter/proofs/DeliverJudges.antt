@@ -13,6 +13,7 @@ use Rattle.ds_model.specs.World.{Conn, Mail, Passed}
 use Rattle.ds_label.specs.declared.category.Category.{Category}
 use Rattle.ds_model.specs.ConnectionStep.{AsksArrival, deliver_from, delivery_after_reply, judge_delivery, passed_of, peer}
 use Rattle.ds_model.specs.Step.{HostAndConn}
+use Rattle.ds_model.specs.Access.{InDesk}
 use Rattle.ds_model.proofs.Places.{at_here, at_other}
 use Rattle.ds_desk.specs.Desks.{DeskView, IsReplay, entered}
 use Rattle.ds_inlet.specs.Connections.{Connection, passed_from, passed_on, refused_from}
@@ -24,12 +25,14 @@ use Rattle.ds_exporter.specs.PlainHosts.{arrived_of, conn_at, conn_of, ends_of, 
 use Rattle.ds_exporter.specs.Conditions.{IsFit}
 use Rattle.ds_exporter.specs.Stamping.{IsBefore, IsUpTo, last_of_desk}
 use Rattle.ds_exporter.specs.Delivering.{IsJudged, IsJudgedAt, IsVerdict, after_verdict}
+use Rattle.ds_exporter.specs.Entering.{Enters, deliver_access}
+use Rattle.ds_exporter.proofs.Entering.{enters_at_desk, enters_by}
 use Rattle.ds_exporter.proofs.Places.{map_kept_at, some_is, there_is}
 use Rattle.ds_exporter.proofs.Tables.{fits_desk}
 use Rattle.ds_exporter.proofs.Stamps.{below_more}
 use Rattle.ds_exporter.proofs.OneConn.{Keeps, conn_stands, fits_conn}
 use Rattle.ds_exporter.proofs.DeliverAsks.{asks_judgement, delivery_is, peer_read}
-use Rattle.ds_exporter.proofs.DeliverPuts.{delivered, delivered_is, plan_is}
+use Rattle.ds_exporter.proofs.DeliverPuts.{deliver_touches, delivered, delivered_is, plan_is}
 
 -- THE CONNECTION AFTER A VERDICT
 
@@ -128,6 +131,9 @@ module _ (e : HostState) (place stamp : ℕ) (who : Actor) (k m : Connection) (s
         let begins = ap (λ (plan : HostPlan). peer scheme plan k.arrived) (sym (plan_is e place k fit stands)) ∙ peer_read k is.judged.read (site_of e) is.judged.lane is.judged.known in
         asks_judgement (site_of e) c (peer scheme (site_of e) k.arrived) is.judged.lane is.judged.front is.judged.rest begins (ap (plain_passed e.desk.here e.desk.desk.rows) free) is.judged.hand
 
+    pub judged_touches : deliver_access link place e ≡ InDesk Looked
+    judged_touches = deliver_touches e place link k stands (AsksArrival is.judged.lane is.judged.front is.judged.rest) asks
+
     conn_after : conn_at link place with_judged ≡ next
     conn_after =
         conn_stands with_judged link place judged_conn (at_here place (λ _. judged_conn) e.conns ∙ ap (option_map (λ _. judged_conn)) stands)
@@ -179,3 +185,9 @@ module _ (e : HostState) (place stamp : ℕ) (who : Actor) (ready desk : DeskVie
 
   pub changed_judged_all : (link : List ℕ) → ends_of link place after_judged ≡ ends_of link place e → ⊥
   changed_judged_all link = by_one (λ (x : HostState). ends_of link place x ≡ ends_of link place e → ⊥) (λ k m h is. changed e place stamp who k m h (free k h).0 fit is link)
+
+  pub enters_judged_all : (k : Connection) → slice_get e.conns place ≡ Some k → who ≡ k.who → (link : List ℕ) → Enters stamp k.who (deliver_access link place e) e after_judged
+  enters_judged_all k h acts link =
+      let q = subst (λ (d : DeskView). IsJudgedAt d e.boxes place e.conns conns) reserved judged k h in
+      enters_by stamp k.who (deliver_access link place e) (InDesk Looked) e after_judged (judged_touches e place stamp who k q.0 h (free k h).0 fit q.2 link)
+      (enters_at_desk stamp k.who Looked e desk conns (looks ∙ ap (λ (a : Actor). entered stamp a Looked e.desk) acts))

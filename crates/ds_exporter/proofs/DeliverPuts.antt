@@ -5,10 +5,11 @@ use Rattle.ds_cert.specs.declared.lane.LaneCert.{LaneCert}
 use Rattle.ds_msg.specs.declared.message.Message.{Message}
 use Rattle.ds_msg.specs.declared.local.LocalMessage.{LocalMessage}
 use Rattle.ds_model.specs.Lists.{at}
-use Rattle.ds_model.specs.Plan.{HostPlan}
+use Rattle.ds_model.specs.Plan.{HostPlan, box_plan}
 use Rattle.ds_model.specs.World.{Conn, Passed}
 use Rattle.ds_model.specs.ConnectionStep.{ConnAsk, ConnWaits, PutsPassed, deliver, deliver_from, peer}
 use Rattle.ds_model.specs.Step.{HostAndConn, perform_conn}
+use Rattle.ds_model.specs.Access.{Access, NoAccess, access_of_conn_ask, put_access}
 use Rattle.ds_model.proofs.Places.{at_here, at_other}
 use Rattle.ds_inlet.specs.Accepting.{inlet_plan}
 use Rattle.ds_inlet.specs.Connections.{Connection}
@@ -18,6 +19,8 @@ use Rattle.ds_exporter.specs.PlainHosts.{arrived_at, arrived_of, conn_at, conn_o
 use Rattle.ds_exporter.specs.Conditions.{HasHelloFirst, IsConnNamed, IsFit, IsMailNamed, IsPassedNamed, LeadsTo}
 use Rattle.ds_exporter.specs.Stamping.{IsBefore, IsUpTo}
 use Rattle.ds_exporter.specs.Delivering.{IsPut, IsPutAt}
+use Rattle.ds_exporter.specs.Entering.{Enters, deliver_access}
+use Rattle.ds_exporter.proofs.Entering.{enters_beside, enters_by, enters_put}
 use Rattle.ds_exporter.proofs.Places.{all_get, map_kept_at, some_is, there_is}
 use Rattle.ds_exporter.proofs.OneConn.{Keeps, arrived_stands, conn_stands, fits_conn}
 use Rattle.ds_exporter.proofs.BoxPuts.{below_put, fits_put, host_put, plan_put, with_put}
@@ -36,6 +39,16 @@ delivered_is e place link k stands ask is =
     let bytes = arrived_stands e place k stands in
     (λ i. perform_conn scheme (site_of e) (host_of e) (c i) (deliver scheme (site_of e) (c i) (bytes i)))
     ∙ ap (perform_conn scheme (site_of e) (host_of e) (conn_of e.desk.here e.desk.desk.rows link k)) is
+
+-- and what it touches
+pub deliver_touches : (e : HostState) (place : ℕ) (link : List ℕ) (k : Connection) → slice_get e.conns place ≡ Some k → (ask : ConnAsk)
+    → deliver_from (site_of e) (conn_of e.desk.here e.desk.desk.rows link k) (peer scheme (site_of e) k.arrived) ≡ ask
+    → deliver_access link place e ≡ access_of_conn_ask (site_of e) (host_of e) ask
+deliver_touches e place link k stands ask is =
+    let c = conn_stands e link place k stands in
+    let bytes = arrived_stands e place k stands in
+    (λ i. access_of_conn_ask (site_of e) (host_of e) (deliver scheme (site_of e) (c i) (bytes i)))
+    ∙ ap (access_of_conn_ask (site_of e) (host_of e)) is
 
 -- its host reads of it what it read
 pub plan_is : (e : HostState) (place : ℕ) (k : Connection) → IsFit e → slice_get e.conns place ≡ Some k → inlet_plan (site_of e) k ≡ site_of e
@@ -95,6 +108,15 @@ module _ (e : HostState) (place stamp : ℕ) (k m : Connection) (boxes : List Ho
         let hello = behind_hello k (is.slot, is.mail) k.reader.lane refl (all_get HasHelloFirst e.conns place k fit.hellos stands) is.passed in
         let begins = ap (λ (plan : HostPlan). peer scheme plan k.arrived) (sym (plan_is e place k fit stands)) ∙ peer_read k is.read (site_of e) hello.0 hello.1 in
         asks_put (site_of e) c (peer scheme (site_of e) k.arrived) hello.0 p is.place begins passed_is (place_is e is.slot ∙ is.found)
+
+    abbrev touch : Access
+    touch = put_access is.place (box_plan (site_of e) is.place).room p.mail (slice_get (host_of e).boxes is.place)
+
+    pub enters_passed : (conns : List Connection) → Enters stamp k.who (deliver_access link place e) e (record e { boxes = boxes; conns = conns })
+    enters_passed conns =
+        enters_by stamp k.who (deliver_access link place e) touch e (record e { boxes = boxes; conns = conns }) (deliver_touches e place link k stands (PutsPassed is.place p.mail (record c { passed = None })) asks)
+        (subst (λ (bs : List HostBox). Enters stamp k.who touch e (record e { boxes = bs; conns = conns })) (sym is.puts)
+        (enters_beside stamp k.who touch e put_at e.procs conns (enters_put stamp k.who e is.place is.mail)))
 
     conn_after : conn_at link place put_there ≡ record c { passed = None }
     conn_after = conn_stands put_there link place none_left (at_here place (λ _. none_left) e.conns ∙ ap (option_map (λ _. none_left)) stands)
@@ -161,3 +183,9 @@ some_left [] b is some = absurd (no (is.1 refl))
     no : b ≡ true → ⊥
     no q = cc
 some_left (m ∷ rest) b is some = omega arith
+
+-- with neither, nothing is touched
+pub nothing_touched : (e : HostState) (place : ℕ) (link : List ℕ) (k : Connection) → slice_get e.conns place ≡ Some k → (k.hand ≡ []) × (k.passed ≡ None) → deliver_access link place e ≡ NoAccess
+nothing_touched e place link k h free =
+    let c = conn_of e.desk.here e.desk.desk.rows link k in
+    deliver_touches e place link k h ConnWaits (asks_nothing (site_of e) c (peer scheme (site_of e) k.arrived) free.0 (ap (plain_passed e.desk.here e.desk.desk.rows) free.1))

@@ -1,7 +1,6 @@
 -- A change of one connection and of its host's inlets.
 use Rattle.std.proofs.Common.{◌≡◌, ℕ, ◌+◌, ◌<◌, List, Some, length, map, slice_get, option_map, refl, sym, ap, ◌∙◌, subst, arith, inl, inr}
 use Rattle.std.specs.Prelude.{◌≢◌, All, AllPairs}
-use Rattle.ds_script.specs.declared.actor.Actor.{Actor}
 use Rattle.ds_script.proofs.Replays.{last_of-push}
 use Rattle.ds_model.specs.Lists.{at}
 use Rattle.ds_model.specs.Scheme.{InletName}
@@ -9,6 +8,7 @@ use Rattle.ds_model.specs.World.{Conn}
 use Rattle.ds_model.specs.Inlet.{number_entry}
 use Rattle.ds_model.specs.ConnectionStep.{accept}
 use Rattle.ds_model.specs.Step.{perform_conn}
+use Rattle.ds_model.specs.Access.{Access, NoAccess, access_of_conn_ask, number_access}
 use Rattle.ds_model.proofs.Places.{at_here, at_other, at_still}
 use Rattle.ds_inlet.specs.Inlets.{CountedLane, entry_of, stamp_of}
 use Rattle.ds_inlet.specs.Connections.{Connection}
@@ -17,11 +17,13 @@ use Rattle.ds_scheme.specs.TheScheme.{scheme}
 use Rattle.ds_exporter.specs.declared.moved.Moved.{Moved}
 use Rattle.ds_exporter.specs.declared.moved.Moved.TheVariants.{Still}
 use Rattle.ds_exporter.specs.HostStates.{HostState}
-use Rattle.ds_exporter.specs.PlainHosts.{arrived_at, arrived_of, conn_at, conn_of, ends_of, host_of, name_of_inlet, site_of}
+use Rattle.ds_exporter.specs.PlainHosts.{arrived_at, arrived_of, conn_at, conn_of, ends_of, host_of, name_of_inlet, plain_inlet, site_of}
 use Rattle.ds_exporter.specs.Conditions.{IsFit, IsPassedNamed, HasBox, AreTwoInlets, LeadsTo}
 use Rattle.ds_exporter.specs.Stamping.{IsBefore, IsInletBefore, IsUpTo}
 use Rattle.ds_exporter.specs.Moving.{Moves}
-use Rattle.ds_exporter.specs.Accepting.{IsCounted, IsNext, IsNextAt, KeepsPassed, counted, met}
+use Rattle.ds_exporter.specs.Entering.{Enters, accept_access}
+use Rattle.ds_exporter.specs.Accepting.{IsCounted, IsNext, IsNextAt, KeepsPassed, Touches, counted, met}
+use Rattle.ds_exporter.proofs.Entering.{enters_beside, enters_by, enters_nothing, enters_number}
 use Rattle.ds_exporter.proofs.Places.{all_at_to, all_get, map_kept_at, pairs_at, some_is, there_is}
 use Rattle.ds_exporter.proofs.Stamps.{all_more, below_more, below_suc}
 use Rattle.ds_exporter.proofs.OneConn.{Keeps, fits_conn, conn_stands, arrived_stands}
@@ -31,23 +33,23 @@ use Rattle.ds_exporter.proofs.OneConn.{Keeps, fits_conn, conn_stands, arrived_st
 abbrev are_two : InletName → InletName → Type 0
 are_two a b = a.exporter ≡ b.exporter → a.lane ≢ b.lane
 
-module _ (stamp : ℕ) (who : Actor) (before after : List CountedLane) where
-  pub names_counted : IsCounted stamp who before after → map name_of_inlet after ≡ map name_of_inlet before
-  names_counted (inl same) = ap (map name_of_inlet) same
-  names_counted (inr (place, number, is)) = ap (map name_of_inlet) is ∙ map_kept_at name_of_inlet place (counted stamp who number) before (λ i h. refl)
+module _ (stamp : ℕ) (k : Connection) (before after : List CountedLane) where
+  pub names_counted : IsCounted stamp k before after → map name_of_inlet after ≡ map name_of_inlet before
+  names_counted (inl same) = ap (map name_of_inlet) same.0
+  names_counted (inr (place, number, is, touch)) = ap (map name_of_inlet) is ∙ map_kept_at name_of_inlet place (counted stamp k.who number) before (λ i h. refl)
 
-  pairs_counted : IsCounted stamp who before after → AllPairs AreTwoInlets before → AllPairs AreTwoInlets after
-  pairs_counted (inl same) pairs = subst (AllPairs AreTwoInlets) (sym same) pairs
-  pairs_counted (inr (place, number, is)) pairs = subst (AllPairs AreTwoInlets) (sym is) (pairs_at are_two name_of_inlet place (counted stamp who number) before (λ i h. refl) pairs)
+  pairs_counted : IsCounted stamp k before after → AllPairs AreTwoInlets before → AllPairs AreTwoInlets after
+  pairs_counted (inl same) pairs = subst (AllPairs AreTwoInlets) (sym same.0) pairs
+  pairs_counted (inr (place, number, is, touch)) pairs = subst (AllPairs AreTwoInlets) (sym is) (pairs_at are_two name_of_inlet place (counted stamp k.who number) before (λ i h. refl) pairs)
 
-  last_counted : (number : ℕ) (i : CountedLane) → IsInletBefore (stamp + 1) (counted stamp who number i)
+  last_counted : (number : ℕ) (i : CountedLane) → IsInletBefore (stamp + 1) (counted stamp k.who number i)
   last_counted number i =
-      subst (λ (n : ℕ). n < stamp + 1) (sym (last_of-push stamp_of i.before i.history (entry_of stamp who (number_entry number i.number)))) (omega arith)
+      subst (λ (n : ℕ). n < stamp + 1) (sym (last_of-push stamp_of i.before i.history (entry_of stamp k.who (number_entry number i.number)))) (omega arith)
 
-  below_counted : IsCounted stamp who before after → All (IsInletBefore stamp) before → All (IsInletBefore (stamp + 1)) after
-  below_counted (inl same) below = subst (All (IsInletBefore (stamp + 1))) (sym same) (all_more (IsInletBefore stamp) (IsInletBefore (stamp + 1)) before (λ i b. below_suc stamp _ b) below)
-  below_counted (inr (place, number, is)) below = subst (All (IsInletBefore (stamp + 1))) (sym is)
-      (all_at_to (IsInletBefore stamp) (IsInletBefore (stamp + 1)) place (counted stamp who number) before (λ i b. below_suc stamp _ b) (λ i h b. last_counted number i) below)
+  below_counted : IsCounted stamp k before after → All (IsInletBefore stamp) before → All (IsInletBefore (stamp + 1)) after
+  below_counted (inl same) below = subst (All (IsInletBefore (stamp + 1))) (sym same.0) (all_more (IsInletBefore stamp) (IsInletBefore (stamp + 1)) before (λ i b. below_suc stamp _ b) below)
+  below_counted (inr (place, number, is, touch)) below = subst (All (IsInletBefore (stamp + 1))) (sym is)
+      (all_at_to (IsInletBefore stamp) (IsInletBefore (stamp + 1)) place (counted stamp k.who number) before (λ i b. below_suc stamp _ b) (λ i h b. last_counted number i) below)
 
 -- THE HOST
 
@@ -69,7 +71,7 @@ module _ (e : HostState) (place stamp : ℕ) (moved : Moved) (k m : Connection) 
   only x h = some_is x k (sym h ∙ stands)
 
   names : map name_of_inlet later ≡ map name_of_inlet e.inlets
-  names = names_counted stamp k.who e.inlets later next.counts
+  names = names_counted stamp k e.inlets later next.counts
 
   pub fits_next : IsFit e → IsFit (with_next place m later e)
   fits_next fit =
@@ -80,7 +82,7 @@ module _ (e : HostState) (place stamp : ℕ) (moved : Moved) (k m : Connection) 
         few = f.few;
         slots = f.slots;
         lanes = f.lanes;
-        inlets = pairs_counted stamp k.who e.inlets later next.counts f.inlets;
+        inlets = pairs_counted stamp k e.inlets later next.counts f.inlets;
         owners = f.owners;
         scripts = f.scripts;
         lane_actors = f.lane_actors;
@@ -104,7 +106,7 @@ module _ (e : HostState) (place stamp : ℕ) (moved : Moved) (k m : Connection) 
   pub below_next : IsBefore stamp e → IsUpTo stamp (with_next place m later e)
   below_next b =
       let more = below_more stamp e b in
-      record { desk = more.desk; boxes = more.boxes; lanes = more.lanes; inlets = below_counted stamp k.who e.inlets later next.counts b.inlets }
+      record { desk = more.desk; boxes = more.boxes; lanes = more.lanes; inlets = below_counted stamp k e.inlets later next.counts b.inlets }
 
   pub still_next : moved ≡ Still → with_next place m later e ≡ e
   still_next still =
@@ -136,6 +138,27 @@ module _ (e : HostState) (place stamp : ℕ) (moved : Moved) (k m : Connection) 
         sym (after link) ∙ (a.0 ∙ performed),
         (λ still. sym (after link) ∙ (a.1.0 still ∙ before link), λ same. a.1.1 (after link ∙ (same ∙ sym (before link)))),
       )
+
+  -- what it touches by its link's stream is what was counted
+  enters_counted : (conns : List Connection) → IsCounted stamp k e.inlets later → (access : Access) → ((touch : Access) → Touches k e.inlets touch → access ≡ touch) → Enters stamp k.who access e (record e { conns = conns; inlets = later })
+  enters_counted conns (inl same) access by =
+      enters_by stamp k.who access NoAccess e (record e { conns = conns; inlets = later }) (by NoAccess same.1)
+      (subst (λ (inlets : List CountedLane). Enters stamp k.who NoAccess e (record e { conns = conns; inlets = inlets })) (sym same.0) (enters_beside stamp k.who NoAccess e e e.procs conns (enters_nothing stamp k.who e)))
+  enters_counted conns (inr (p, number, is, touches)) access by =
+      let touch = number_access p number (slice_get (map plain_inlet e.inlets) p) in
+      enters_by stamp k.who access touch e (record e { conns = conns; inlets = later }) (by touch touches)
+      (subst (λ (inlets : List CountedLane). Enters stamp k.who touch e (record e { conns = conns; inlets = inlets })) (sym is)
+      (enters_beside stamp k.who touch e (record e { inlets = at p (counted stamp k.who number) e.inlets }) e.procs conns (enters_number stamp k.who e p number)))
+
+  pub enters_next : IsFit e → (link : List ℕ) (conns : List Connection) → Enters stamp k.who (accept_access link place e) e (record e { conns = conns; inlets = later })
+  enters_next fit link conns =
+      let lead = all_get (LeadsTo e.desk.here (map name_of_inlet e.inlets)) e.conns place k fit.conns stands in
+      let plan : site_of e ≡ inlet_plan (site_of e) k = λ i. record (site_of e) { key = sym lead.here i; inlets = sym lead.inlets i } in
+      let c = conn_stands e link place k stands in
+      let bytes = arrived_stands e place k stands in
+      let same : accept_access link place e ≡ access_of_conn_ask (inlet_plan (site_of e) k) (host_of e) (accept scheme (inlet_plan (site_of e) k) (conn_of e.desk.here e.desk.desk.rows link k) k.arrived)
+      = λ i. access_of_conn_ask (plan i) (host_of e) (accept scheme (plan i) (c i) (bytes i)) in
+      enters_counted conns next.counts (accept_access link place e) (λ touch touches. same ∙ touches e.desk.here e.desk.desk.rows (site_of e) (host_of e) link)
 
 -- of the connection at a place, as the code's call says
 module _ (e : HostState) (place stamp : ℕ) (moved : Moved) (conns : List Connection) (later : List CountedLane) (within : place < length e.conns) (next : IsNextAt moved stamp place e.conns conns e.inlets later) where

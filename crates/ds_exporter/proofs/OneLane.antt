@@ -1,5 +1,5 @@
 -- A change of one lane.
-use Rattle.std.proofs.Common.{◌≡◌, ℕ, zero, suc, ◌+◌, ◌<◌, Bool, true, false, List, [], ◌∷◌, Some, None, length, slice_get, option_map, refl, sym, ap, ◌∙◌, subst, arith}
+use Rattle.std.proofs.Common.{◌≡◌, ℕ, zero, suc, ◌+◌, ◌<◌, Bool, true, false, List, [], ◌∷◌, ◌++◌, Some, None, length, slice_get, option_map, refl, sym, ap, ◌∙◌, subst, arith}
 use Rattle.std.specs.Prelude.{◌≢◌, map, min, take, drop, nat_lt, Option, if◌then◌else◌}
 use Rattle.std.specs.List.{flat_map}
 use Rattle.std.proofs.lemmas.Option.{slice_get-map, get_or_from_slice_get}
@@ -13,9 +13,10 @@ use Rattle.ds_msg.specs.declared.message.Message.{Message}
 use Rattle.ds_model.specs.Lists.{at}
 use Rattle.ds_model.specs.Plan.{LanePlan, no_lane, lane_plan}
 use Rattle.ds_model.specs.World.{Worker, Host, Waiting as PlainWaiting}
-use Rattle.ds_model.specs.Lane.{lifted, front, frame_limit}
+use Rattle.ds_model.specs.Lane.{Lifted, lifted, front, frame_limit}
 use Rattle.ds_model.specs.WorkerStep.{WorkerWaits, Lifts, lane_ask, lifted_after_reply}
 use Rattle.ds_model.specs.Step.{front_of, perform_lane, step_lane}
+use Rattle.ds_model.specs.Access.{Access, NoAccess, access_of_lane, access_of_lane_ask, lift_access, lift_access_in}
 use Rattle.ds_model.proofs.Places.{at_here, at_still}
 use Rattle.ds_scheme.specs.TheScheme.{scheme}
 use Rattle.ds_scheme.proofs.Parts.{same_lane_leaf}
@@ -27,9 +28,11 @@ use Rattle.ds_exporter.specs.HostStates.{HostLane, HostState}
 use Rattle.ds_exporter.specs.Merging.{plain_waiting, entry_lines, line_of, merged, worker_stamped}
 use Rattle.ds_exporter.specs.PlainHosts.{plain_queue, plain_worker, log_of, host_of, site_of, plan_of_lane}
 use Rattle.ds_exporter.specs.Lifting.{lifted_from, lifted_lane}
-use Rattle.ds_exporter.specs.Conditions.{IsFit, IsLaneOf, HasLane}
+use Rattle.ds_exporter.specs.Conditions.{IsFit, IsLaneOf, HasLane, lane_actor}
+use Rattle.ds_exporter.specs.Entering.{Enters, frame_access, lane_change}
 use Rattle.ds_exporter.specs.Stamping.{IsBefore, IsLaneBefore}
-use Rattle.ds_exporter.proofs.Places.{all_at, all_at_to, pairs_at, any_at, map_over_at, map_kept_at, length_at, seen_alike}
+use Rattle.ds_exporter.proofs.Entering.{enters_by, enters_lane, enters_same, worker_is}
+use Rattle.ds_exporter.proofs.Places.{all_at, all_at_to, pairs_at, any_at, map_over_at, map_kept_at, length_at, seen_alike, there_is}
 use Rattle.ds_exporter.proofs.Stamps.{lane_more, below_more}
 
 -- what a lane keeps of itself in a change: its certificates, its worker's actor and key, and its room
@@ -179,17 +182,60 @@ module _ (e : HostState) (p : ℕ) (l : HostLane) (stands : slice_get e.lanes p 
   lifted_host stamp false is =
       ap (λ (lanes : List HostLane). host_of (record e { lanes = lanes })) (at_still p (lifted_lane stamp) e.lanes (λ m h. subst (λ (x : HostLane). lifted_lane stamp x ≡ x) (sym (only m h)) (ap (λ b. if b then lifted_from stamp l l.lane.waiting else l) is)))
 
-  asks : step_lane scheme (site_of e) (host_of e) p (slice_get (host_of e).workers p) ≡ asked (nat_lt l.worker.signing.next (leaves_of l.worker.signing.key))
-  asks =
-      let worker = slice_get-map plain_worker e.lanes p ∙ ap (option_map plain_worker) stands in
+  worker_there : slice_get (host_of e).workers p ≡ Some (plain_worker l)
+  worker_there = slice_get-map plain_worker e.lanes p ∙ ap (option_map plain_worker) stands
+
+  -- the worker there lifts, or waits
+  asks_lift : lane_ask scheme (lane_plan (site_of e) p) (plain_worker l) ≡ (if nat_lt l.worker.signing.next (leaves_of l.worker.signing.key) then Lifts else WorkerWaits)
+  asks_lift =
       let plan : lane_plan (site_of e) p ≡ plan_of_lane l = get_or_from_slice_get (map plan_of_lane e.lanes) p (plan_of_lane l) no_lane (slice_get-map plan_of_lane e.lanes p ∙ ap (option_map plan_of_lane) stands) in
-      ap (step_lane scheme (site_of e) (host_of e) p) worker
-      ∙ (ap (λ (x : LanePlan). perform_lane scheme (site_of e) (host_of e) p (lane_ask scheme x (plain_worker l))) plan
-      ∙ (ap (λ hand. perform_lane scheme (site_of e) (host_of e) p (lane_ask scheme (plan_of_lane l) (record (plain_worker l) { hand = map plain_waiting hand }))) empty
-      ∙ ap asked (same_lane_leaf l.worker.signing.key l.worker.signing.next)))
+      ap (λ (x : LanePlan). lane_ask scheme x (plain_worker l)) plan
+      ∙ (ap (λ hand. lane_ask scheme (plan_of_lane l) (record (plain_worker l) { hand = map plain_waiting hand })) empty
+      ∙ ap (λ (ready : Bool). if ready then Lifts else WorkerWaits) (same_lane_leaf l.worker.signing.key l.worker.signing.next))
+
+  asks : step_lane scheme (site_of e) (host_of e) p (slice_get (host_of e).workers p) ≡ asked (nat_lt l.worker.signing.next (leaves_of l.worker.signing.key))
+  asks = ap (step_lane scheme (site_of e) (host_of e) p) worker_there ∙ ap (perform_lane scheme (site_of e) (host_of e) p) asks_lift
 
   pub lifts : (stamp : ℕ) → host_of (with_lane p (lifted_lane stamp) e) ≡ step_lane scheme (site_of e) (host_of e) p (slice_get (host_of e).workers p)
   lifts stamp = lifted_host stamp (nat_lt l.worker.signing.next (leaves_of l.worker.signing.key)) refl ∙ sym asks
+
+  -- THE ENTRY OF A LIFT
+
+  abbrev touched : Bool → Access
+  touched ready = access_of_lane_ask (host_of e) p (if ready then Lifts else WorkerWaits)
+
+  touches_lift : frame_access p e ≡ touched (nat_lt l.worker.signing.next (leaves_of l.worker.signing.key))
+  touches_lift = ap (access_of_lane scheme (site_of e) (host_of e) p) worker_there ∙ ap (access_of_lane_ask (host_of e) p) asks_lift
+
+  -- what stays as it is enters nothing
+  enters_still : (stamp : ℕ) (who : Actor) (access : Access) → access ≡ NoAccess → lifted_lane stamp l ≡ l → Enters stamp who access e (with_lane p (lifted_lane stamp) e)
+  enters_still stamp who access none same = enters_same stamp who access e (with_lane p (lifted_lane stamp) e) none
+      (ap (λ (lanes : List HostLane). record e { lanes = lanes }) (at_still p (lifted_lane stamp) e.lanes (λ m h. subst (λ (x : HostLane). lifted_lane stamp x ≡ x) (sym (only m h)) same)))
+
+  -- what is lifted is entered by the worker
+  lift_history : (stamp : ℕ) (who : Actor) (w : Waiting) (waiting : List Waiting) → l.worker.who ≡ who → lifted_lane stamp l ≡ lifted_from stamp l (w ∷ waiting)
+      → ((lifted_lane stamp l).lane.history ≡ l.lane.history ++ entry_of stamp who (lane_change (Lifted (min frame_limit (length (map plain_waiting (w ∷ waiting)))))) ∷ []) × ((lifted_lane stamp l).worker.entries ≡ l.worker.entries)
+  lift_history stamp who w waiting is some = (
+    ap (λ (m : HostLane). m.lane.history) some
+        ∙ ((λ i. l.lane.history ++ entry_of stamp (is i) (lift_entry (w ∷ waiting)) ∷ [])
+        ∙ ap (λ (n : ℕ). l.lane.history ++ entry_of stamp who (Lifted (min frame_limit n)) ∷ []) (sym (length-map (w ∷ waiting) plain_waiting))),
+    ap (λ (m : HostLane). m.worker.entries) some,
+  )
+
+  enters_from : (stamp : ℕ) (who : Actor) (waiting : List Waiting) → l.worker.who ≡ who → lifted_lane stamp l ≡ lifted_from stamp l waiting → Enters stamp who (lift_access p (map plain_waiting waiting)) e (with_lane p (lifted_lane stamp) e)
+  enters_from stamp who [] is same = enters_still stamp who NoAccess refl same
+  enters_from stamp who (w ∷ waiting) is some = enters_lane stamp who e p (Lifted (min frame_limit (length (map plain_waiting (w ∷ waiting))))) (lifted_lane stamp)
+      (λ m h. subst (λ (x : HostLane). ((lifted_lane stamp x).lane.history ≡ x.lane.history ++ entry_of stamp who (lane_change (Lifted (min frame_limit (length (map plain_waiting (w ∷ waiting)))))) ∷ []) × ((lifted_lane stamp x).worker.entries ≡ x.worker.entries))
+      (sym (only m h)) (lift_history stamp who w waiting is some))
+
+  enters_ready : (stamp : ℕ) (who : Actor) (ready : Bool) → l.worker.who ≡ who → nat_lt l.worker.signing.next (leaves_of l.worker.signing.key) ≡ ready → Enters stamp who (touched ready) e (with_lane p (lifted_lane stamp) e)
+  enters_ready stamp who true is q = enters_by stamp who (touched true) (lift_access p (plain_queue l)) e (with_lane p (lifted_lane stamp) e) (ap (lift_access_in p) queue_at)
+      (enters_from stamp who l.lane.waiting is (ap (λ (b : Bool). if b then lifted_from stamp l l.lane.waiting else l) q))
+  enters_ready stamp who false is q = enters_still stamp who (touched false) refl (ap (λ (b : Bool). if b then lifted_from stamp l l.lane.waiting else l) q)
+
+  pub enters_lifted : (stamp : ℕ) (who : Actor) → l.worker.who ≡ who → Enters stamp who (frame_access p e) e (with_lane p (lifted_lane stamp) e)
+  enters_lifted stamp who is = enters_by stamp who (frame_access p e) (touched (nat_lt l.worker.signing.next (leaves_of l.worker.signing.key))) e (with_lane p (lifted_lane stamp) e) touches_lift
+      (enters_ready stamp who (nat_lt l.worker.signing.next (leaves_of l.worker.signing.key)) is refl)
 
   -- with nothing in hand nothing was lifted, and else the worker's hand shows it
   pub nothing_lifted : (stamp : ℕ) → (lifted_lane stamp l).worker.hand ≡ [] → lifted_lane stamp l ≡ l
@@ -213,3 +259,8 @@ module _ (e : HostState) (p : ℕ) (l : HostLane) (stands : slice_get e.lanes p 
       slice_get-map plain_worker (at p (lifted_lane stamp) e.lanes) p ∙ ap (option_map plain_worker) (at_here p (lifted_lane stamp) e.lanes ∙ ap (option_map (lifted_lane stamp)) stands) in
       let one : Some (plain_worker (lifted_lane stamp l)) ≡ Some (plain_worker l) = sym after ∙ (ap (λ (x : Host). slice_get x.workers p) same ∙ before) in
       no_hand (lifted_lane stamp l).worker.hand (ap hand_or one ∙ ap (map plain_waiting) empty)
+
+-- of the lane at a place
+pub lift_enters : (e : HostState) (p stamp : ℕ) → IsFit e → p < length e.lanes → ((l : HostLane) → slice_get e.lanes p ≡ Some l → l.worker.hand ≡ []) → Enters stamp (lane_actor e.host p) (frame_access p e) e (with_lane p (lifted_lane stamp) e)
+lift_enters e p stamp fit within empty = there_is (Enters stamp (lane_actor e.host p) (frame_access p e) e (with_lane p (lifted_lane stamp) e)) e.lanes p within
+    (λ l h. enters_lifted e p l h (empty l h) stamp (lane_actor e.host p) (worker_is e p fit l h))

@@ -9,6 +9,7 @@ use Rattle.ds_model.specs.Lists.{at}
 use Rattle.ds_model.specs.World.{Process, Host}
 use Rattle.ds_model.specs.ProcessStep.{ask_hand, ask_inner}
 use Rattle.ds_model.specs.Step.{perform, step_proc}
+use Rattle.ds_model.specs.Access.{NoAccess, access_of_ask, access_of_proc}
 use Rattle.ds_model.proofs.Places.{at_here, at_still}
 use Rattle.ds_exporter.specs.declared.moved.Moved.{Moved}
 use Rattle.ds_exporter.proofs.Runs.{not_run}
@@ -17,6 +18,7 @@ use Rattle.ds_exporter.specs.HostStates.{HostProcess, HostState}
 use Rattle.ds_exporter.specs.PlainHosts.{host_of, site_of, plain_process}
 use Rattle.ds_exporter.specs.Conditions.{IsFit, Reaches, OpReaches, IsProcNamed, AreNumbered, HandHasLane, IsGoing, HasMore, IsOwned}
 use Rattle.ds_exporter.specs.Running.{inside_of, ran_inside}
+use Rattle.ds_exporter.specs.Entering.{step_access}
 use Rattle.ds_exporter.specs.Stamping.{IsBefore}
 use Rattle.ds_exporter.proofs.Places.{all_at, map_over_at, length_at, some_is, there_is}
 use Rattle.ds_exporter.proofs.Stamps.{below_more}
@@ -95,6 +97,13 @@ module _ (e : HostState) (p : ℕ) (x : HostProcess) (stands : slice_get e.procs
       (ap (λ (o : Option Course). record seen { course = unwrap_or o x.process.course }) some))
       ∙ sym (asks_inner ∙ ap (λ (o : Option Course). perform scheme (site_of e) (host_of e) p (ask_inner (site_of e) p seen o)) some)
 
+  -- it touches nothing
+  pub touches_none : (course : Course) → inside_of x ≡ Some course → step_access p e ≡ NoAccess
+  touches_none course some =
+      ap (access_of_proc scheme (site_of e) (host_of e) p) (slice_get-map (plain_process e.desk.here e.desk.desk.rows) e.procs p ∙ ap (option_map (plain_process e.desk.here e.desk.desk.rows)) stands)
+      ∙ (ap (λ (hand : Option Message). access_of_ask scheme (site_of e) (host_of e) p (ask_hand (site_of e) p seen hand)) free
+      ∙ ap (λ (o : Option Course). access_of_ask scheme (site_of e) (host_of e) p (ask_inner (site_of e) p seen o)) some)
+
   pub still_ran : ran_inside x ≡ x → with_proc p ran_inside e ≡ e
   still_ran same = ap (λ (procs : List HostProcess). record e { procs = procs }) (at_still p ran_inside e.procs (λ y h. subst (λ (z : HostProcess). ran_inside z ≡ z) (sym (only y h)) same))
 
@@ -120,6 +129,13 @@ module _ (e : HostState) (p : ℕ) (within : p < length e.procs) (free : (x : Ho
       go : (x : HostProcess) → slice_get e.procs p ≡ Some x → (o : Option Course) → inside_of x ≡ o → host_of (with_proc p ran_inside e) ≡ step_proc scheme (site_of e) (host_of e) p (slice_get (host_of e).procs p)
       go x h None is = absurd (some ((outer x h).1 is))
       go x h (Some course) is = runs e p x h (free x h) course is
+
+  pub ran_touches : (ran ≡ None → ⊥) → step_access p e ≡ NoAccess
+  ran_touches some = there_is (step_access p e ≡ NoAccess) e.procs p within (λ x h. go x h (inside_of x) refl)
+    where
+      go : (x : HostProcess) → slice_get e.procs p ≡ Some x → (o : Option Course) → inside_of x ≡ o → step_access p e ≡ NoAccess
+      go x h None is = absurd (some ((outer x h).1 is))
+      go x h (Some course) is = touches_none e p x h (free x h) course is
 
   pub ran_none : ran ≡ None → with_proc p ran_inside e ≡ e
   ran_none none = there_is (with_proc p ran_inside e ≡ e) e.procs p within (λ x h. still_ran e p x h (free x h) (sym (not_run x ((outer x h).0 none))))

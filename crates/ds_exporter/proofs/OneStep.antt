@@ -8,6 +8,7 @@ use Rattle.ds_model.specs.Lists.{at}
 use Rattle.ds_model.specs.World.{Process, Host}
 use Rattle.ds_model.specs.ProcessStep.{Ask, Waits, refused, noted}
 use Rattle.ds_model.specs.Step.{perform, step_proc}
+use Rattle.ds_model.specs.Access.{NoAccess, access_of_ask, access_of_proc}
 use Rattle.ds_model.proofs.Places.{at_here}
 use Rattle.ds_scheme.specs.TheScheme.{scheme}
 use Rattle.ds_exporter.specs.declared.moved.Moved.{Moved}
@@ -15,8 +16,9 @@ use Rattle.ds_exporter.specs.HostStates.{HostProcess, HostState}
 use Rattle.ds_exporter.specs.PlainHosts.{host_of, site_of, plain_process}
 use Rattle.ds_exporter.specs.Conditions.{IsFit, HasMore}
 use Rattle.ds_exporter.specs.Stamping.{IsBefore, IsUpTo}
+use Rattle.ds_exporter.specs.Entering.{step_access}
 use Rattle.ds_exporter.specs.Stepping.{Asks, IsFree, IsStepped, Steps, always, next_host, proc_actor, refused_proc}
-use Rattle.ds_exporter.proofs.Entering.{enters_nothing}
+use Rattle.ds_exporter.proofs.Entering.{enters_beside, enters_by, enters_nothing}
 use Rattle.ds_exporter.proofs.Places.{length_at, map_over_at, some_is, there_is}
 use Rattle.ds_exporter.proofs.Stamps.{below_more}
 use Rattle.ds_exporter.proofs.OneProc.{with_proc, fits_proc}
@@ -69,6 +71,12 @@ module _ (e : HostState) (p : ℕ) (x : HostProcess) (stands : slice_get e.procs
       ap (step_proc scheme (site_of e) (host_of e) p) (slice_get-map (plain_process e.desk.here e.desk.desk.rows) e.procs p ∙ ap (option_map (plain_process e.desk.here e.desk.desk.rows)) stands)
       ∙ ap (perform scheme (site_of e) (host_of e) p) (asks x stands)
 
+  -- and what it touches
+  pub touches : (asked : Process → Ask) → Asks p e asked → step_access p e ≡ access_of_ask scheme (site_of e) (host_of e) p (asked seen)
+  touches asked asks =
+      ap (access_of_proc scheme (site_of e) (host_of e) p) (slice_get-map (plain_process e.desk.here e.desk.desk.rows) e.procs p ∙ ap (option_map (plain_process e.desk.here e.desk.desk.rows)) stands)
+      ∙ ap (access_of_ask scheme (site_of e) (host_of e) p) (asks x stands)
+
   -- what stands there after a change of it
   pub becomes : (f : HostProcess → HostProcess) → slice_get (at p f e.procs) p ≡ Some (f x)
   becomes f = at_here p f e.procs ∙ ap (option_map f) stands
@@ -106,12 +114,11 @@ module _ (e : HostState) (p : ℕ) (rule : Rule) (within : p < length e.procs) (
     conns = refl;
     named = λ link place. refl;
     stamps = below_proc stamp e (at p (refused_proc rule) e.procs) below;
-    entered =
-        let none = enters_nothing stamp (proc_actor e.host p) e in
-        record { desk = none.desk; boxes = none.boxes; lanes = none.lanes; inlets = none.inlets };
+    entered = enters_by stamp (proc_actor e.host p) (step_access p e) NoAccess e with_refused (touches e p x h (refused rule) asks)
+        (enters_beside stamp (proc_actor e.host p) NoAccess e e (at p (refused_proc rule) e.procs) e.conns (enters_nothing stamp (proc_actor e.host p) e));
   })
 
 -- NOTHING TO DO
 
-pub waits_still : (e : HostState) (p : ℕ) → p < length e.procs → Asks p e (always Waits) → host_of e ≡ next_host p e
-waits_still e p within asks = there_is (host_of e ≡ next_host p e) e.procs p within (λ x h. sym (performs e p x h (always Waits) asks))
+pub waits_still : (e : HostState) (p : ℕ) → p < length e.procs → Asks p e (always Waits) → (host_of e ≡ next_host p e) × (step_access p e ≡ NoAccess)
+waits_still e p within asks = there_is ((host_of e ≡ next_host p e) × (step_access p e ≡ NoAccess)) e.procs p within (λ x h. (sym (performs e p x h (always Waits) asks), touches e p x h (always Waits) asks))

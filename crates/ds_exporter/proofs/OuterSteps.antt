@@ -12,6 +12,7 @@ use Rattle.ds_model.specs.Plan.{HostPlan}
 use Rattle.ds_model.specs.World.{Process}
 use Rattle.ds_model.specs.ProcessStep.{Ask, Waits, Internal, TakeFrom, PublicAct, AsksJudgement, ask, ask_hand, ask_inner, ask_outer, refused}
 use Rattle.ds_model.specs.Step.{perform}
+use Rattle.ds_model.specs.Access.{NoAccess}
 use Rattle.ds_model.proofs.Places.{at_still}
 use Rattle.ds_map.specs.Labels.{have_names, has_name}
 use Rattle.ds_map.specs.Table.{IsTable}
@@ -33,11 +34,12 @@ use Rattle.ds_exporter.specs.Asking.{AsksSo, IsFreeFor, IsInRange, IsSameUnless,
 use Rattle.ds_exporter.specs.Running.{inside_of}
 use Rattle.ds_exporter.specs.Sites.{box_site, fixed_in}
 use Rattle.ds_exporter.specs.Stamping.{IsBefore}
+use Rattle.ds_exporter.specs.Entering.{step_access}
 use Rattle.ds_exporter.specs.Stepping.{Asks, IsFree, IsStepped, always, next_host, proc_actor, put_ask}
-use Rattle.ds_exporter.proofs.Entering.{enters_nothing}
+use Rattle.ds_exporter.proofs.Entering.{enters_beside, enters_by, enters_nothing}
 use Rattle.ds_exporter.proofs.Places.{all_get}
 use Rattle.ds_exporter.proofs.OneProc.{with_proc, fits_proc}
-use Rattle.ds_exporter.proofs.OneStep.{becomes, below_proc, host_by, moved_on, no_hand_more, only, performs, site_proc}
+use Rattle.ds_exporter.proofs.OneStep.{becomes, below_proc, host_by, moved_on, no_hand_more, only, performs, site_proc, touches}
 use Rattle.ds_exporter.proofs.Rooms.{is_site, same_outer}
 
 -- the labels of mailboxes have names
@@ -130,8 +132,10 @@ module _ (e : HostState) (p : ℕ) (x : HostProcess) (procs : List HostProcess) 
     named = λ link place. refl;
     stamps = below_proc stamp e (at p (λ _. now) e.procs) below;
     entered =
-        let none = enters_nothing stamp (proc_actor e.host p) e in
-        record { desk = none.desk; boxes = none.boxes; lanes = none.lanes; inlets = none.inlets };
+        let next = plain_process here rows now in
+        let asks = for_all (always (Internal next)) (subst (λ (b : ProcessAsk). IsAsked here rows y next b (ask (site_of e) p y)) is is_asked) in
+        enters_by stamp (proc_actor e.host p) (step_access p e) NoAccess e (with_proc p (λ _. now) e) (touches e p x stands (always (Internal next)) asks)
+        (enters_beside stamp (proc_actor e.host p) NoAccess e e (at p (λ _. now) e.procs) e.conns (enters_nothing stamp (proc_actor e.host p) e));
   })
 
   pub same_unless : IsSameUnless p e asked_host a

@@ -1,25 +1,24 @@
 -- A process that puts a message into a mailbox of its host.
-use Rattle.std.proofs.Common.{◌≡◌, ℕ, ◌<◌, length, refl, sym, ap, ◌∙◌, subst}
+use Rattle.std.proofs.Common.{◌≡◌, ℕ, ◌<◌, Some, length, slice_get, refl, sym, ap, ◌∙◌, subst}
 use Rattle.ds_script.specs.declared.actor.Actor.{Actor}
 use Rattle.ds_script.specs.declared.note.Note.TheVariants as notes
 use Rattle.ds_msg.specs.declared.local.LocalMessage.{LocalMessage}
 use Rattle.ds_model.specs.Lists.{at}
-use Rattle.ds_model.specs.Mailbox.{put_entry}
-use Rattle.ds_box.specs.Boxes.{entry_of}
+use Rattle.ds_model.specs.Access.{put_access}
+use Rattle.ds_model.specs.Plan.{box_plan}
 use Rattle.ds_model.specs.World.{Host}
 use Rattle.ds_model.specs.ProcessStep.{noted}
 use Rattle.ds_exporter.specs.HostStates.{HostProcess, HostState}
-use Rattle.ds_exporter.specs.PlainHosts.{host_of, plain_mail, plain_process}
+use Rattle.ds_exporter.specs.PlainHosts.{host_of, plain_mail, plain_process, site_of}
 use Rattle.ds_exporter.specs.Conditions.{IsFit, IsMailNamed}
 use Rattle.ds_exporter.specs.Stamping.{IsBefore, IsUpTo}
-use Rattle.ds_exporter.specs.Entering.{Enters, IsBoxEntryOf}
-use Rattle.ds_exporter.specs.Mailboxes.{put_in}
+use Rattle.ds_exporter.specs.Entering.{Enters, step_access}
 use Rattle.ds_exporter.specs.Stepping.{Asks, IsFree, IsStepped, proc_actor, put_ask, sent_proc}
 use Rattle.ds_exporter.proofs.Places.{there_is}
-use Rattle.ds_exporter.proofs.Entering.{enters_box, goes_one}
+use Rattle.ds_exporter.proofs.Entering.{enters_beside, enters_by, enters_put}
 use Rattle.ds_exporter.proofs.BoxPuts.{below_put, fits_put, host_put, plan_put, with_put}
 use Rattle.ds_exporter.proofs.OneProc.{with_proc, fits_proc}
-use Rattle.ds_exporter.proofs.OneStep.{becomes, host_by, moved_on, no_hand_more, only, performs, seen, site_proc}
+use Rattle.ds_exporter.proofs.OneStep.{becomes, host_by, moved_on, no_hand_more, only, performs, seen, site_proc, touches}
 
 module _ (e : HostState) (p i stamp : ℕ) (who : Actor) (m : LocalMessage) (within : p < length e.procs) (free : IsFree p e) where
   -- the message is in the mailbox, and the process notes that it sent
@@ -35,10 +34,12 @@ module _ (e : HostState) (p i stamp : ℕ) (who : Actor) (m : LocalMessage) (wit
       let more = below_put e i stamp who m b in
       record { desk = more.desk; boxes = more.boxes; lanes = more.lanes; inlets = more.inlets }
 
-  entered_sent : who ≡ proc_actor e.host p → Enters stamp (proc_actor e.host p) e put_and_sent
-  entered_sent is =
-      let more = enters_box stamp who i (put_in stamp who m) e (λ b h. goes_one (IsBoxEntryOf stamp who) b.mailbox.history (entry_of stamp who (put_entry b.mailbox.room m b.mailbox.waiting)) (refl, refl)) in
-      subst (λ (a : Actor). Enters stamp a e put_and_sent) is (record { desk = more.desk; boxes = more.boxes; lanes = more.lanes; inlets = more.inlets })
+  entered_sent : who ≡ proc_actor e.host p → Asks p e (put_ask i (plain_mail e.desk.here e.desk.desk.rows m)) → (x : HostProcess) → slice_get e.procs p ≡ Some x → Enters stamp (proc_actor e.host p) (step_access p e) e put_and_sent
+  entered_sent is asks x h =
+      let touch = put_access i (box_plan (site_of e) i).room (plain_mail e.desk.here e.desk.desk.rows m) (slice_get (host_of e).boxes i) in
+      subst (λ (a : Actor). Enters stamp a (step_access p e) e put_and_sent) is
+      (enters_by stamp who (step_access p e) touch e put_and_sent (touches e p x h (put_ask i (plain_mail e.desk.here e.desk.desk.rows m)) asks)
+      (enters_beside stamp who touch e (with_put e i stamp who m) (at p sent_proc e.procs) e.conns (enters_put stamp who e i m)))
 
   pub stepped_put : who ≡ proc_actor e.host p → Asks p e (put_ask i (plain_mail e.desk.here e.desk.desk.rows m)) → IsBefore stamp e → IsStepped stamp p e put_and_sent
   stepped_put acts asks below = there_is (IsStepped stamp p e put_and_sent) e.procs p within (λ x h. record {
@@ -51,5 +52,5 @@ module _ (e : HostState) (p i stamp : ℕ) (who : Actor) (m : LocalMessage) (wit
     conns = refl;
     named = λ link place. refl;
     stamps = below_sent below;
-    entered = entered_sent acts;
+    entered = entered_sent acts asks x h;
   })

@@ -19,6 +19,7 @@ use Rattle.ds_model.specs.Plan.{HostPlan, LanePlan, lane_plan, no_lane}
 use Rattle.ds_model.specs.World.{Process, Waiting}
 use Rattle.ds_model.specs.ProcessStep.{Waits, Admit, ask, ask_hand, noted, queue_at, lane_of as lane_place}
 use Rattle.ds_model.specs.Step.{admitted_lines, lined}
+use Rattle.ds_model.specs.Access.{admit_access}
 use Rattle.ds_lane.specs.declared.entry.LaneEntry.{LaneEntry}
 use Rattle.ds_lane.specs.Lanes.{IsOn, entry_of, sent_by}
 use Rattle.ds_lane.proofs.Grows.{grown_last}
@@ -34,15 +35,15 @@ use Rattle.ds_exporter.specs.Conditions.{IsFit, HandHasLane, HasLane, HasMore}
 use Rattle.ds_exporter.specs.Sites.{cert_of, fixed_in}
 use Rattle.ds_exporter.specs.Queueing.{HandAsks, IsOnAt, IsSentOn, LeadsToLane, admitted_lane, is_lane_for, queued_proc}
 use Rattle.ds_exporter.specs.Stamping.{IsBefore, IsLaneBefore, IsUpTo}
-use Rattle.ds_exporter.specs.Entering.{Enters, IsLaneEntryOf, IsWorkerEntryAt}
+use Rattle.ds_exporter.specs.Entering.{Enters, step_access}
 use Rattle.ds_exporter.specs.Stepping.{Asks, IsStepped, admit_ask, proc_actor}
-use Rattle.ds_exporter.proofs.Entering.{enters_lane, goes_nowhere, goes_one}
+use Rattle.ds_exporter.proofs.Entering.{enters_admitted, enters_beside, enters_by}
 use Rattle.ds_exporter.proofs.Places.{all_get, map_kept_at, map_over_at, there_is}
 use Rattle.ds_exporter.proofs.Stamps.{lane_more}
 use Rattle.ds_exporter.proofs.Queues.{log_admitted, position_seen, queue_admitted}
 use Rattle.ds_exporter.proofs.OneLane.{Keeps, with_lane, fits_lane, plan_lane, below_lane, this_below}
 use Rattle.ds_exporter.proofs.OneProc.{with_proc, fits_proc}
-use Rattle.ds_exporter.proofs.OneStep.{becomes, host_by, moved_on, only, performs, seen, site_proc}
+use Rattle.ds_exporter.proofs.OneStep.{becomes, host_by, moved_on, only, performs, seen, site_proc, touches}
 
 -- THE LANE
 
@@ -176,11 +177,12 @@ module _ (e : HostState) (p l : ℕ) (m : Message) (within : p < length e.procs)
     workers_after : map plain_worker (at l (admitted_lane stamp who m) e.lanes) ≡ (host_of e).workers
     workers_after = map_kept_at plain_worker l (admitted_lane stamp who m) e.lanes (λ y h. refl)
 
-    entered_queued : host ≡ e.host → Enters stamp (proc_actor e.host p) e queued
-    entered_queued is =
-        let more = enters_lane stamp who l (admitted_lane stamp who m) e
-        (λ y h. (goes_one (IsLaneEntryOf stamp who) y.lane.history (entry_of stamp who (admit_entry y.lane.room (sent_by p m) y.lane.waiting)) (refl, refl), goes_nowhere (IsWorkerEntryAt stamp) y.worker.entries)) in
-        subst (λ (h : ℕ). Enters stamp (proc_actor h p) e queued) is (record { desk = more.desk; boxes = more.boxes; lanes = more.lanes; inlets = more.inlets })
+    entered_queued : host ≡ e.host → (x : HostProcess) → slice_get e.procs p ≡ Some x → Enters stamp (proc_actor e.host p) (step_access p e) e queued
+    entered_queued is x h =
+        let touch = admit_access l (lane_plan (site_of e) l).room w (slice_get (host_of e).queues l) in
+        subst (λ (n : ℕ). Enters stamp (proc_actor n p) (step_access p e) e queued) is
+        (enters_by stamp who (step_access p e) touch e queued (touches e p x h (admit_ask l m) asked)
+        (enters_beside stamp who touch e with_admitted (at p queued_proc e.procs) e.conns (enters_admitted stamp who e l m)))
 
     pub stepped_queue : host ≡ e.host → IsBefore stamp e → IsStepped stamp p e queued
     stepped_queue acts below = there_is (IsStepped stamp p e queued) e.procs p within (λ x h.
@@ -197,7 +199,7 @@ module _ (e : HostState) (p l : ℕ) (m : Message) (within : p < length e.procs)
           conns = refl;
           named = λ link place. refl;
           stamps = below_queued below;
-          entered = entered_queued acts;
+          entered = entered_queued acts x h;
         })
 
 -- with a message in hand a process is before its script's end

@@ -10,7 +10,9 @@ use Rattle.ds_model.specs.Desk.{Looked}
 use Rattle.ds_model.specs.ExporterRules.{judge_send}
 use Rattle.ds_model.specs.World.{Process, Host}
 use Rattle.ds_model.specs.ProcessStep.{AsksJudgement, judged_after_reply}
+use Rattle.ds_model.specs.Lists.{at}
 use Rattle.ds_model.specs.Step.{attached, judged}
+use Rattle.ds_model.specs.Access.{InDesk}
 use Rattle.ds_desk.specs.Desks.{IsReplay, entered}
 use Rattle.ds_scheme.specs.TheScheme.{scheme}
 use Rattle.ds_scheme.proofs.Spelt.{spelling_is}
@@ -19,12 +21,12 @@ use Rattle.ds_exporter.specs.PlainHosts.{host_of, site_of, plain_process}
 use Rattle.ds_exporter.specs.Conditions.{IsFit}
 use Rattle.ds_exporter.specs.Sending.{IsSendVerdict, judged_proc, send_rule}
 use Rattle.ds_exporter.specs.Stamping.{IsBefore, IsUpTo, last_of_desk}
-use Rattle.ds_exporter.specs.Entering.{Enters}
+use Rattle.ds_exporter.specs.Entering.{Enters, step_access}
 use Rattle.ds_exporter.specs.Stepping.{Asks, IsFree, IsStepped, always, proc_actor, refused_proc}
-use Rattle.ds_exporter.proofs.Entering.{enters_desk}
+use Rattle.ds_exporter.proofs.Entering.{enters_beside, enters_by, enters_desk}
 use Rattle.ds_exporter.proofs.Places.{there_is}
 use Rattle.ds_exporter.proofs.OneProc.{Keeps, with_proc, fits_proc}
-use Rattle.ds_exporter.proofs.OneStep.{becomes, host_by, moved_on, no_hand_more, performs, site_proc}
+use Rattle.ds_exporter.proofs.OneStep.{becomes, host_by, moved_on, no_hand_more, performs, site_proc, touches}
 use Rattle.ds_exporter.proofs.QueueSteps.{lane_found}
 use Rattle.ds_exporter.proofs.Stays.{with_entry, fits_entry, below_entry}
 
@@ -92,10 +94,11 @@ module _ (e : HostState) (p stamp : ℕ) (who : Actor) (m : Message) (verdict : 
       let more = below_entry e stamp who Looked b last in
       record { desk = more.desk; boxes = more.boxes; lanes = more.lanes; inlets = more.inlets }
 
-  entered_judged : who ≡ proc_actor e.host p → Enters stamp (proc_actor e.host p) e sent_judged
-  entered_judged is =
-      let more = enters_desk stamp who Looked e in
-      subst (λ (a : Actor). Enters stamp a e sent_judged) is (record { desk = more.desk; boxes = more.boxes; lanes = more.lanes; inlets = more.inlets })
+  entered_judged : who ≡ proc_actor e.host p → Asks p e (always (AsksJudgement m)) → (x : HostProcess) → slice_get e.procs p ≡ Some x → Enters stamp (proc_actor e.host p) (step_access p e) e sent_judged
+  entered_judged is asks x h =
+      subst (λ (a : Actor). Enters stamp a (step_access p e) e sent_judged) is
+      (enters_by stamp who (step_access p e) (InDesk Looked) e sent_judged (touches e p x h (always (AsksJudgement m)) asks)
+      (enters_beside stamp who (InDesk Looked) e with_look (at p (judged_proc m verdict) e.procs) e.conns (enters_desk stamp who e Looked)))
 
   pub stepped_judged : who ≡ proc_actor e.host p → Asks p e (always (AsksJudgement m)) → IsBefore stamp e → last_of_desk (entered stamp who Looked e.desk) ≤ stamp → IsStepped stamp p e sent_judged
   stepped_judged acts asks below last = there_is (IsStepped stamp p e sent_judged) e.procs p within (λ x h. record {
@@ -106,5 +109,5 @@ module _ (e : HostState) (p stamp : ℕ) (who : Actor) (m : Message) (verdict : 
     conns = refl;
     named = λ link place. refl;
     stamps = below_judged below last;
-    entered = entered_judged acts;
+    entered = entered_judged acts asks x h;
   })

@@ -15,6 +15,7 @@ use Rattle.ds_model.specs.Mailbox.{TookOut, box_after, oldest, took, took_with}
 use Rattle.ds_model.specs.World.{Mail, Mailbox}
 use Rattle.ds_model.specs.ProcessStep.{TakeFrom, taken_after_reply}
 use Rattle.ds_model.specs.Step.{oldest_in}
+use Rattle.ds_model.specs.Access.{InBox, NoAccess, take_access, take_access_in}
 use Rattle.ds_model.proofs.Places.{at_still}
 use Rattle.ds_map.specs.Table.{IsTable}
 use Rattle.ds_box.specs.Boxes.{entry_of, stamp_of}
@@ -22,14 +23,14 @@ use Rattle.ds_exporter.specs.HostStates.{HostBox, HostProcess, HostState}
 use Rattle.ds_exporter.specs.PlainHosts.{host_of, plain_box, plain_entry, plain_mail, plain_process}
 use Rattle.ds_exporter.specs.Conditions.{IsBoxNamed, IsEntryNamed, IsFit, IsMailNamed, IsNumbered, IsProcNamed}
 use Rattle.ds_exporter.specs.Stamping.{IsBefore, IsBoxBefore, IsUpTo}
-use Rattle.ds_exporter.specs.Entering.{Enters, IsBoxEntryOf}
+use Rattle.ds_exporter.specs.Entering.{Enters, step_access}
 use Rattle.ds_exporter.specs.Stepping.{Asks, IsFree, IsStepped, always, next_host, proc_actor}
 use Rattle.ds_exporter.specs.Taking.{TakesSo, taken_box, took_proc}
-use Rattle.ds_exporter.proofs.Entering.{enters_box, goes_one}
+use Rattle.ds_exporter.proofs.Entering.{enters_beside, enters_box, enters_by}
 use Rattle.ds_exporter.proofs.Places.{all_get, map_over_at, some_is, there_is}
 use Rattle.ds_exporter.proofs.BoxPuts.{Keeps, below_box, fits_box, plan_box, with_box}
 use Rattle.ds_exporter.proofs.OneProc.{with_proc, fits_proc}
-use Rattle.ds_exporter.proofs.OneStep.{becomes, host_by, moved_on, no_hand_more, performs, site_proc}
+use Rattle.ds_exporter.proofs.OneStep.{becomes, host_by, moved_on, no_hand_more, performs, site_proc, touches}
 
 -- THE MAILBOX
 
@@ -88,15 +89,25 @@ none_taken here rows b none = ap (λ (waiting : List LocalMessage). took_with (p
 
 -- NOTHING WAITS
 
+none_touched : (e : HostState) (p i reg slot : ℕ) → i < length e.boxes → Asks p e (always (TakeFrom i reg slot)) → ((b : HostBox) → slice_get e.boxes i ≡ Some b → b.mailbox.waiting ≡ [])
+    → (x : HostProcess) → slice_get e.procs p ≡ Some x → step_access p e ≡ NoAccess
+none_touched e p i reg slot inside asks empty x h = there_is (step_access p e ≡ NoAccess) e.boxes i inside (λ b k.
+    touches e p x h (always (TakeFrom i reg slot)) asks
+    ∙ (ap (take_access_in i) (box_here e i b k)
+    ∙ ap (λ (waiting : List LocalMessage). take_access i (slice_get (map (plain_mail e.desk.here e.desk.desk.rows) waiting) 0)) (empty b k)))
+
 pub still_take : (e : HostState) (p i reg slot : ℕ) → p < length e.procs → i < length e.boxes → Asks p e (always (TakeFrom i reg slot))
-    → ((b : HostBox) → slice_get e.boxes i ≡ Some b → b.mailbox.waiting ≡ []) → host_of e ≡ next_host p e
-still_take e p i reg slot within inside asks empty = there_is (host_of e ≡ next_host p e) e.procs p within (λ x h. there_is (host_of e ≡ next_host p e) e.boxes i inside (λ b k.
-    let told = ap (λ (o : Option (Mail Category)). at p (taken_after_reply reg slot o) (host_of e).procs) (none_here e i b k (empty b k)) in
-    let procs : at p (taken_after_reply reg slot (oldest_in (slice_get (host_of e).boxes i))) (host_of e).procs ≡ (host_of e).procs = told ∙ at_still p (taken_after_reply reg slot None) (host_of e).procs (λ y there. refl) in
-    let boxes : at i took (host_of e).boxes ≡ (host_of e).boxes = at_still i took (host_of e).boxes (λ y there.
-    let same : plain_box e.desk.here e.desk.desk.rows b ≡ y = some_is (plain_box e.desk.here e.desk.desk.rows b) y (sym (box_here e i b k) ∙ there) in
-    subst (λ (z : Mailbox). took z ≡ z) same (none_taken e.desk.here e.desk.desk.rows b (empty b k))) in
-    sym (performs e p x h (always (TakeFrom i reg slot)) asks ∙ λ j. record (host_of e) { procs = procs j; boxes = boxes j })))
+    → ((b : HostBox) → slice_get e.boxes i ≡ Some b → b.mailbox.waiting ≡ []) → (host_of e ≡ next_host p e) × (step_access p e ≡ NoAccess)
+still_take e p i reg slot within inside asks empty = there_is ((host_of e ≡ next_host p e) × (step_access p e ≡ NoAccess)) e.procs p within (λ x h. (
+  there_is (host_of e ≡ next_host p e) e.boxes i inside (λ b k.
+      let told = ap (λ (o : Option (Mail Category)). at p (taken_after_reply reg slot o) (host_of e).procs) (none_here e i b k (empty b k)) in
+      let procs : at p (taken_after_reply reg slot (oldest_in (slice_get (host_of e).boxes i))) (host_of e).procs ≡ (host_of e).procs = told ∙ at_still p (taken_after_reply reg slot None) (host_of e).procs (λ y there. refl) in
+      let boxes : at i took (host_of e).boxes ≡ (host_of e).boxes = at_still i took (host_of e).boxes (λ y there.
+      let same : plain_box e.desk.here e.desk.desk.rows b ≡ y = some_is (plain_box e.desk.here e.desk.desk.rows b) y (sym (box_here e i b k) ∙ there) in
+      subst (λ (z : Mailbox). took z ≡ z) same (none_taken e.desk.here e.desk.desk.rows b (empty b k))) in
+      sym (performs e p x h (always (TakeFrom i reg slot)) asks ∙ λ j. record (host_of e) { procs = procs j; boxes = boxes j })),
+  none_touched e p i reg slot inside asks empty x h,
+))
 
 -- A MESSAGE WAITS
 
@@ -138,10 +149,17 @@ module _ (e : HostState) (p i stamp reg slot : ℕ) (who : Actor) (m : LocalMess
       (λ b k. (takes x h).becomes e.desk.here e.desk.desk.rows table (all_get (IsProcNamed e.desk.here e.desk.desk.rows) e.procs p x fit.named_procs h) mail_named
       ∙ ap (λ (o : Option (Mail Category)). taken_after_reply reg slot o (plain_process e.desk.here e.desk.desk.rows x)) (sym (oldest_here e i b k m (first b k))))
 
-  entered_taken : who ≡ proc_actor e.host p → Enters stamp (proc_actor e.host p) e taken
-  entered_taken is =
-      let more = enters_box stamp who i (taken_box stamp who) e (λ b h. goes_one (IsBoxEntryOf stamp who) b.mailbox.history (entry_of stamp who TookOut) (refl, refl)) in
-      subst (λ (a : Actor). Enters stamp a e taken) is (record { desk = more.desk; boxes = more.boxes; lanes = more.lanes; inlets = more.inlets })
+  touched : Asks p e (always (TakeFrom i reg slot)) → (x : HostProcess) → slice_get e.procs p ≡ Some x → step_access p e ≡ InBox i TookOut
+  touched asks x h = there_is (step_access p e ≡ InBox i TookOut) e.boxes i inside (λ b k.
+      touches e p x h (always (TakeFrom i reg slot)) asks
+      ∙ (ap (take_access_in i) (box_here e i b k) ∙ ap (take_access i) (oldest_is e.desk.here e.desk.desk.rows stamp who b m (first b k))))
+
+  entered_taken : who ≡ proc_actor e.host p → Asks p e (always (TakeFrom i reg slot)) → (x : HostProcess) → slice_get e.procs p ≡ Some x → Enters stamp (proc_actor e.host p) (step_access p e) e taken
+  entered_taken is asks x h =
+      subst (λ (a : Actor). Enters stamp a (step_access p e) e taken) is
+      (enters_by stamp who (step_access p e) (InBox i TookOut) e taken (touched asks x h)
+      (enters_beside stamp who (InBox i TookOut) e with_taken (at p (took_proc reg slot m) e.procs) e.conns
+      (enters_box stamp who e i TookOut (taken_box stamp who) (λ b k. (entry_of stamp who TookOut, refl, (refl, refl), refl)))))
 
   pub stepped_take : who ≡ proc_actor e.host p → Asks p e (always (TakeFrom i reg slot)) → IsBefore stamp e → IsStepped stamp p e taken
   stepped_take acts asks below = there_is (IsStepped stamp p e taken) e.procs p within (λ x h. record {
@@ -153,5 +171,5 @@ module _ (e : HostState) (p i stamp reg slot : ℕ) (who : Actor) (m : LocalMess
     conns = refl;
     named = λ link place. refl;
     stamps = below_taken below;
-    entered = entered_taken acts;
+    entered = entered_taken acts asks x h;
   })

@@ -9,6 +9,7 @@ use Rattle.ds_model.specs.World.{Host}
 use Rattle.ds_model.specs.Inlet.{number_entry}
 use Rattle.ds_model.specs.ConnectionStep.{accept}
 use Rattle.ds_model.specs.Step.{HostAndConn, perform_conn}
+use Rattle.ds_model.specs.Access.{Access, NoAccess, access_of_conn_ask, number_access}
 use Rattle.ds_inlet.specs.Inlets.{CountedLane, InletWithCapacity, entered}
 use Rattle.ds_inlet.specs.Accepting.{inlet_plan}
 use Rattle.ds_inlet.specs.Connections.{Connection}
@@ -22,10 +23,6 @@ use Rattle.ds_exporter.specs.Conditions.{HasHelloFirst}
 -- an inlet after a frame's number
 abbrev pub counted : (stamp : ℕ) → Actor → (number : ℕ) → CountedLane → CountedLane
 counted stamp who number i = entered stamp who (number_entry number i.number) i
-
--- each inlet stayed as it was, or one of them took a frame's number
-abbrev pub IsCounted : (stamp : ℕ) → Actor → (before after : List CountedLane) → Type 0
-IsCounted stamp who before after = (after ≡ before) ⊎ ((place : ℕ) × (number : ℕ) × (after ≡ at place (counted stamp who number) before))
 
 -- there is memory for a number at the inlet at a place
 abbrev pub HasRoomAt : (place : ℕ) → List InletWithCapacity → Type 0
@@ -41,6 +38,17 @@ Accepted moved before after inlets later = (here : PubKey) (rows : List Category
     Moves moved (met here rows link x inlets before) (met here rows link x later after)
     (perform_conn scheme (inlet_plan plan before) (record x { inlets = map plain_inlet inlets }) (conn_of here rows link before) (accept scheme (inlet_plan plan before) (conn_of here rows link before) before.arrived))
 
+-- what a connection that accepts touches of a host with these inlets is this, whatever the rest of the host is
+abbrev pub Touches : Connection → (inlets : List CountedLane) → Access → Type 0
+Touches k inlets access = (here : PubKey) (rows : List Category) (plan : HostPlan) (x : Host) (link : List ℕ) →
+    access_of_conn_ask (inlet_plan plan k) (record x { inlets = map plain_inlet inlets }) (accept scheme (inlet_plan plan k) (conn_of here rows link k) k.arrived) ≡ access
+
+-- each inlet stayed as it was and none is touched, or one of them took a frame's number and is the one that is touched
+abbrev pub IsCounted : (stamp : ℕ) → Connection → (before after : List CountedLane) → Type 0
+IsCounted stamp k before after =
+    ((after ≡ before) × Touches k before NoAccess)
+    ⊎ ((place : ℕ) × (number : ℕ) × (after ≡ at place (counted stamp k.who number) before) × Touches k before (number_access place number (slice_get (map plain_inlet before) place)))
+
 -- what a connection keeps of itself when it accepts
 pub record KeepsPassed (before after : Connection) : Type 0 where
   pub who : after.who ≡ before.who
@@ -54,7 +62,7 @@ pub record KeepsPassed (before after : Connection) : Type 0 where
 pub record IsNext (moved : Moved) (stamp : ℕ) (before after : Connection) (inlets later : List CountedLane) : Type 0 where
   pub accepted : Accepted moved before after inlets later
   pub keeps : KeepsPassed before after
-  pub counts : IsCounted stamp before.who inlets later
+  pub counts : IsCounted stamp before inlets later
   pub still : moved ≡ Still → (after ≡ before) × (later ≡ inlets)
 
 -- the same of the connection at a place of a list

@@ -1,58 +1,92 @@
--- Whose entries an event makes in the histories of a host, and at which stamp.
-use Rattle.std.specs.Prelude.{◌≡◌, ℕ, List, [], ◌∷◌, ◌++◌}
+-- Which entry an event makes: at most one, in the history of the object that it touches in the plain world. All other histories
+-- of the host stay as they are.
+use Rattle.std.specs.Prelude.{◌≡◌, ℕ, List, Some, ◌++◌, length, map, slice_get}
 use Rattle.std.specs.List.{AllByRecursion}
+use Rattle.ds_label.specs.declared.category.PubKey.{PubKey}
+use Rattle.ds_label.specs.declared.category.Category.{Category}
 use Rattle.ds_script.specs.declared.actor.Actor.{Actor}
-use Rattle.ds_desk.specs.declared.act.DeskEntry.{DeskEntry}
+use Rattle.ds_model.specs.World.{Waiting}
+use Rattle.ds_model.specs.Lane.{LaneEntry as LaneChange, Queued, QueueFull, Lifted}
+use Rattle.ds_model.specs.ConnectionStep.{accept, deliver}
+use Rattle.ds_model.specs.Access.{Access, box_entry, lane_entry, inlet_entry, desk_entry, access_of_proc, access_of_lane, access_of_conn_ask, access_of_clock}
+use Rattle.ds_desk.specs.Desks.{entry_of as desk_entry_of}
 use Rattle.ds_box.specs.declared.entry.BoxEntry.{BoxEntry}
-use Rattle.ds_lane.specs.declared.entry.LaneEntry.{LaneEntry}
+use Rattle.ds_lane.specs.declared.batch.Waiting.{Waiting as SentMessage}
 use Rattle.ds_lane.specs.declared.worker_entry.WorkerEntry.{WorkerEntry}
-use Rattle.ds_inlet.specs.declared.entry.InletEntry.{InletEntry}
-use Rattle.ds_inlet.specs.Inlets.{CountedLane}
+use Rattle.ds_lane.specs.Lanes.{entry_of as lane_entry_of}
+use Rattle.ds_inlet.specs.Inlets.{CountedLane, entry_of as inlet_entry_of}
+use Rattle.ds_scheme.specs.TheScheme.{scheme}
 use Rattle.ds_exporter.specs.HostStates.{HostBox, HostLane, HostState}
+use Rattle.ds_exporter.specs.PlainHosts.{arrived_at, conn_at, host_of, plain_entry, site_of}
 
--- a history goes on by such entries alone, perhaps by none
-abbrev pub GoesOnBy : {E : Type 0} → (E → Type 0) → (old new : List E) → Type 0
-GoesOnBy {E} Is old new = (more : List E) × (new ≡ old ++ more) × AllByRecursion Is more
+-- WHAT AN EVENT TOUCHES, in the plain world
 
--- what stands at a place of one list and at that place of another, of the same length
-abbrev pub AtEachPlace : {X : Type 0} → (X → X → Type 0) → (old new : List X) → Type 0
-AtEachPlace P [] [] = Unit {0}
-AtEachPlace P (x ∷ xs) (y ∷ ys) = P x y × AtEachPlace P xs ys
-AtEachPlace P [] (y ∷ ys) = ⊥
-AtEachPlace P (x ∷ xs) [] = ⊥
+-- a step of the process at a place
+abbrev pub step_access : (place : ℕ) → HostState → Access
+step_access p e = access_of_proc scheme (site_of e) (host_of e) p (slice_get (host_of e).procs p)
 
--- ENTRIES OF AN ACTOR AT A STAMP
+-- a frame event of the lane at a place
+abbrev pub frame_access : (place : ℕ) → HostState → Access
+frame_access p e = access_of_lane scheme (site_of e) (host_of e) p (slice_get (host_of e).workers p)
 
-abbrev pub IsDeskEntryOf : (stamp : ℕ) → Actor → DeskEntry → Type 0
-IsDeskEntryOf stamp who entry = (entry.stamp ≡ stamp) × (entry.who ≡ who)
+-- the connection at a place that accepts, whose link's stream is this one
+abbrev pub accept_access : (link : List ℕ) → (place : ℕ) → HostState → Access
+accept_access link place e = access_of_conn_ask (site_of e) (host_of e) (accept scheme (site_of e) (conn_at link place e) (arrived_at place e))
+
+-- and the one that delivers
+abbrev pub deliver_access : (link : List ℕ) → (place : ℕ) → HostState → Access
+deliver_access link place e = access_of_conn_ask (site_of e) (host_of e) (deliver scheme (site_of e) (conn_at link place e) (arrived_at place e))
+
+-- a tick of the clock
+abbrev pub tick_access : (to : ℕ) → HostState → Access
+tick_access to e = access_of_clock (site_of e) e.desk.desk.moment to
+
+-- LISTS
+
+-- so many in the one list as in the other, and what is at a place of the one and at that place of the other
+abbrev pub AtEachPlace : {X : Type 0} → (ℕ → X → X → Type 0) → (old new : List X) → Type 0
+AtEachPlace {X} P old new = (length new ≡ length old) × ((place : ℕ) (x y : X) → slice_get old place ≡ Some x → slice_get new place ≡ Some y → P place x y)
+
+-- HISTORIES, which go on by what this actor enters at this stamp
 
 abbrev pub IsBoxEntryOf : (stamp : ℕ) → Actor → BoxEntry → Type 0
 IsBoxEntryOf stamp who entry = (entry.stamp ≡ stamp) × (entry.who ≡ who)
 
-abbrev pub IsLaneEntryOf : (stamp : ℕ) → Actor → LaneEntry → Type 0
-IsLaneEntryOf stamp who entry = (entry.stamp ≡ stamp) × (entry.who ≡ who)
+-- A mailbox's: its entries have the host's own numbers, and by the names of the table they are the plain world's.
+pub record BoxGoesOn (stamp : ℕ) (who : Actor) (here : PubKey) (rows : List Category) (access : Access) (place : ℕ) (a b : HostBox) : Type 0 where
+  pub more : List BoxEntry
+  pub history : b.mailbox.history ≡ a.mailbox.history ++ more
+  pub own : AllByRecursion (IsBoxEntryOf stamp who) more
+  pub names : map (plain_entry here rows) more ≡ box_entry place access
 
--- a worker's own entries are all its
+-- a message on a lane as the lane has it
+abbrev pub sent_message : Waiting → SentMessage
+sent_message w = record { from = w.sender; message = w.message }
+
+abbrev pub lane_change : LaneChange Waiting → LaneChange SentMessage
+lane_change (Queued w) = Queued (sent_message w)
+lane_change (QueueFull w) = QueueFull (sent_message w)
+lane_change (Lifted count) = Lifted count
+
+-- a lane's
+abbrev pub LaneGoesOn : (stamp : ℕ) → Actor → Access → (place : ℕ) → (a b : HostLane) → Type 0
+LaneGoesOn stamp who access place a b = b.lane.history ≡ a.lane.history ++ map (lane_entry_of stamp who) (map lane_change (lane_entry place access))
+
+-- its worker's, which is no shared object: all entries there are its own
 abbrev pub IsWorkerEntryAt : (stamp : ℕ) → WorkerEntry → Type 0
 IsWorkerEntryAt stamp entry = entry.stamp ≡ stamp
 
-abbrev pub IsInletEntryOf : (stamp : ℕ) → Actor → InletEntry → Type 0
-IsInletEntryOf stamp who entry = (entry.stamp ≡ stamp) × (entry.who ≡ who)
+abbrev pub WorkerGoesOn : (stamp place : ℕ) → (a b : HostLane) → Type 0
+WorkerGoesOn stamp place a b = (more : List WorkerEntry) × (b.worker.entries ≡ a.worker.entries ++ more) × AllByRecursion (IsWorkerEntryAt stamp) more
 
--- HISTORIES
+-- an inlet's
+abbrev pub InletGoesOn : (stamp : ℕ) → Actor → Access → (place : ℕ) → (a b : CountedLane) → Type 0
+InletGoesOn stamp who access place a b = b.history ≡ a.history ++ map (inlet_entry_of stamp who) (inlet_entry place access)
 
-abbrev pub BoxGoesOn : (stamp : ℕ) → Actor → (old new : HostBox) → Type 0
-BoxGoesOn stamp who a b = GoesOnBy (IsBoxEntryOf stamp who) a.mailbox.history b.mailbox.history
-
-abbrev pub LaneGoesOn : (stamp : ℕ) → Actor → (old new : HostLane) → Type 0
-LaneGoesOn stamp who a b = GoesOnBy (IsLaneEntryOf stamp who) a.lane.history b.lane.history × GoesOnBy (IsWorkerEntryAt stamp) a.worker.entries b.worker.entries
-
-abbrev pub InletGoesOn : (stamp : ℕ) → Actor → (old new : CountedLane) → Type 0
-InletGoesOn stamp who a b = GoesOnBy (IsInletEntryOf stamp who) a.history b.history
-
--- each history of the host goes on by entries of this actor at this stamp alone
-pub record Enters (stamp : ℕ) (who : Actor) (old new : HostState) : Type 0 where
-  pub desk : GoesOnBy (IsDeskEntryOf stamp who) old.desk.history new.desk.history
-  pub boxes : AtEachPlace (BoxGoesOn stamp who) old.boxes new.boxes
-  pub lanes : AtEachPlace (LaneGoesOn stamp who) old.lanes new.lanes
-  pub inlets : AtEachPlace (InletGoesOn stamp who) old.inlets new.inlets
+-- THE HOST: each history goes on by the entry that is its own, if one is, by the names of the table before the event
+pub record Enters (stamp : ℕ) (who : Actor) (access : Access) (old new : HostState) : Type 0 where
+  pub desk : new.desk.history ≡ old.desk.history ++ map (desk_entry_of stamp who) (desk_entry access)
+  pub boxes : AtEachPlace (BoxGoesOn stamp who old.desk.here old.desk.desk.rows access) old.boxes new.boxes
+  pub lanes : AtEachPlace (LaneGoesOn stamp who access) old.lanes new.lanes
+  pub workers : AtEachPlace (WorkerGoesOn stamp) old.lanes new.lanes
+  pub inlets : AtEachPlace (InletGoesOn stamp who access) old.inlets new.inlets

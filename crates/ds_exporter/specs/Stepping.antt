@@ -11,6 +11,7 @@ use Rattle.ds_msg.specs.declared.message.Message.{Message}
 use Rattle.ds_model.specs.World.{Process, Mail, Host}
 use Rattle.ds_model.specs.ProcessStep.{Ask, Put, Admit, ask, noted}
 use Rattle.ds_model.specs.Step.{step_proc}
+use Rattle.ds_model.specs.Access.{NoAccess}
 use Rattle.ds_scheme.specs.TheScheme.{scheme}
 use Rattle.ds_actor.specs.Asking.{CanEnd}
 use Rattle.ds_exporter.specs.declared.moved.Moved.{Moved}
@@ -19,7 +20,7 @@ use Rattle.ds_exporter.specs.declared.parts.ProcPart.{ProcPart}
 use Rattle.ds_exporter.specs.HostStates.{HostProcess, HostState}
 use Rattle.ds_exporter.specs.PlainHosts.{conn_at, host_of, plain_process, site_of}
 use Rattle.ds_exporter.specs.Stamping.{IsUpTo}
-use Rattle.ds_exporter.specs.Entering.{Enters}
+use Rattle.ds_exporter.specs.Entering.{Enters, step_access}
 
 abbrev pub proc_actor : (host place : ℕ) → Actor
 proc_actor host place = record { kind = kinds.Proc; host = host; index = place }
@@ -71,7 +72,7 @@ abbrev pub next_host : (place : ℕ) → HostState → Host
 next_host p e = step_proc scheme (site_of e) (host_of e) p (slice_get (host_of e).procs p)
 
 -- The host is what the plain world makes of it, and another one; what setup fixed and the connections are as they were, and the
--- histories go on by the process's entries alone.
+-- histories go on by the process's entry alone: the one that the plain world's step makes.
 pub record IsStepped (stamp p : ℕ) (old new : HostState) : Type 0 where
   pub host : host_of new ≡ next_host p old
   pub changed : host_of new ≢ host_of old
@@ -79,12 +80,12 @@ pub record IsStepped (stamp p : ℕ) (old new : HostState) : Type 0 where
   pub conns : new.conns ≡ old.conns
   pub named : (link : List ℕ) (place : ℕ) → conn_at link place new ≡ conn_at link place old
   pub stamps : IsUpTo stamp new
-  pub entered : Enters stamp (proc_actor old.host p) old new
+  pub entered : Enters stamp (proc_actor old.host p) (step_access p old) old new
 
--- so it is, or there was nothing to do
+-- so it is, or there was nothing to do and to enter
 abbrev pub Steps : Moved → (stamp p : ℕ) → (old new : HostState) → Type 0
 Steps Changed stamp p old new = IsStepped stamp p old new
-Steps Still stamp p old new = (new ≡ old) × (host_of old ≡ next_host p old)
+Steps Still stamp p old new = (new ≡ old) × (host_of old ≡ next_host p old) × (step_access p old ≡ NoAccess)
 
 -- The keeper is as it was where the desk's key is at the leaf where it was; else the key is at the next leaf, and its mark was
 -- raised to that one.

@@ -11,7 +11,7 @@ ghost use Rattle.ds_exporter.specs.HostStates.{connection_of, inlet_of};
 ghost use Rattle.ds_exporter.specs.PlainHosts.{arrived_at, arrived_of, conn_at, ends_of, host_of, name_of_inlet, plain_inlet, site_of};
 ghost use Rattle.ds_exporter.specs.Accepting.{HasRoomAt, IsNext, IsNextAt, counted};
 ghost use Rattle.ds_exporter.specs.Moving.{Moves};
-ghost use Rattle.ds_exporter.specs.Entering.{Enters};
+ghost use Rattle.ds_exporter.specs.Entering.{Enters, accept_access};
 ghost use Rattle.ds_exporter.specs.Stamping.{IsBefore, IsInletBefore, IsUpTo};
 
 use crate::exporter::Exporter;
@@ -169,7 +169,7 @@ impl Exporter {
         ensures still { result ≡ Ok Moved.Still → self.new ≡ self.old }
         ensures err { OnErr result (self.new ≡ self.old) }
         ensures stamps { IsUpTo stamp self.new }
-        ensures entered { OnOk result ((k : Connection) → slice_get self.old.conns conn ≡ Some k → Enters stamp k.who self.old self.new) }
+        ensures entered { (link : List ℕ) → OnOk result ((k : Connection) → slice_get self.old.conns conn ≡ Some k → Enters stamp k.who (accept_access link conn self.old) self.old self.new) }
     {
         let moved = accept_at(
             &mut self.parts.conns,

@@ -3,10 +3,13 @@
 
 ghost use Rattle.std.specs.Prelude.{◌≡◌, ◌↔◌, ◌<◌, ◌++◌, ℕ, List, [], length, map, OnOk, OnErr, IfOk, Ok};
 ghost use Rattle.ds_model.specs.Lists.{at};
+ghost use Rattle.ds_script.specs.declared.actor.Actor.{Actor};
 ghost use Rattle.ds_model.specs.ConnectionStep.{arrive};
+ghost use Rattle.ds_model.specs.Access.{NoAccess};
 ghost use Rattle.ds_inlet.specs.Connections.{arrived_more};
 ghost use Rattle.ds_exporter.specs.HostStates.{connection_of};
 ghost use Rattle.ds_exporter.specs.PlainHosts.{arrived_at, conn_at};
+ghost use Rattle.ds_exporter.specs.Entering.{Enters};
 ghost use Rattle.ds_exporter.specs.Stamping.{IsBefore, IsUpTo};
 
 use crate::exporter::Exporter;
@@ -38,6 +41,7 @@ impl Exporter {
         ensures still { result ≡ Ok Moved.Still → self.new ≡ self.old }
         ensures err { OnErr result (self.new ≡ self.old) }
         ensures stamps { IsUpTo stamp self.new }
+        ensures entered { (who : Actor) → OnOk result (Enters stamp who NoAccess self.old self.new) }
     {
         if piece.is_empty() {
             return Ok(Moved::Still);

@@ -15,7 +15,7 @@ ghost use Rattle.ds_exporter.specs.Checking.{checked_as, lane_rule};
 ghost use Rattle.ds_exporter.specs.Lifting.{lifted_lane};
 ghost use Rattle.ds_exporter.specs.Moving.{Moves};
 ghost use Rattle.ds_exporter.specs.Conditions.{lane_actor};
-ghost use Rattle.ds_exporter.specs.Entering.{Enters};
+ghost use Rattle.ds_exporter.specs.Entering.{Enters, frame_access};
 ghost use Rattle.ds_exporter.specs.Stamping.{IsBefore, IsUpTo};
 
 use crate::checking::frame_rule;
@@ -102,7 +102,7 @@ impl Exporter {
         ensures still { result ≡ Ok Moved.Still → self.new ≡ self.old }
         ensures err { OnErr result (self.new ≡ self.old) }
         ensures stamps { IsUpTo stamp self.new }
-        ensures entered { OnOk result (Enters stamp (lane_actor self.old.host place) self.old self.new) }
+        ensures entered { OnOk result (Enters stamp (lane_actor self.old.host place) (frame_access place self.old) self.old self.new) }
     {
         if lift_at(&mut self.parts.lanes, place, stamp)? {
             return Ok(Moved::Changed);
@@ -127,7 +127,7 @@ impl Exporter {
         ensures conns { self.new.conns ≡ self.old.conns }
         ensures err { OnErr result (self.new ≡ self.old) }
         ensures stamps { IsUpTo stamp self.new }
-        ensures entered { OnOk result (Enters stamp (lane_actor self.old.host place) self.old self.new) }
+        ensures entered { OnOk result (Enters stamp (lane_actor self.old.host place) (frame_access place self.old) self.old self.new) }
         ensures faults { K.faults keeper.old ≤ K.faults keeper.new }
         ensures fault { result ≡ Err CoreFault.KeeperFault → Rose (K.faults keeper.old) (K.faults keeper.new) }
         ensures untouched { result ≡ Err CoreFault.NoMemory → keeper.new ≡ keeper.old }
@@ -166,7 +166,7 @@ impl Exporter {
         ensures still { result ≡ Ok Moved.Still → self.new ≡ self.old }
         ensures err { OnErr result (self.new ≡ self.old) }
         ensures stamps { IsUpTo stamp self.new }
-        ensures entered { OnOk result (Enters stamp (lane_actor self.old.host (lane - 1)) self.old self.new) }
+        ensures entered { OnOk result (Enters stamp (lane_actor self.old.host (lane - 1)) (frame_access (lane - 1) self.old) self.old self.new) }
         ensures faults { K.faults keeper.old ≤ K.faults keeper.new }
         ensures fault { result ≡ Err CoreFault.KeeperFault → Rose (K.faults keeper.old) (K.faults keeper.new) }
         ensures untouched { result ≡ Err CoreFault.NoMemory → keeper.new ≡ keeper.old }

@@ -8,7 +8,9 @@ ghost use Rattle.ds_scheme.specs.TheScheme.{scheme};
 ghost use Rattle.ds_exporter.specs.HostStates.{HostProcess, process_of};
 ghost use Rattle.ds_exporter.specs.PlainHosts.{host_of, site_of};
 ghost use Rattle.ds_exporter.specs.Running.{inside_of, ran_inside};
+ghost use Rattle.ds_exporter.specs.Entering.{Enters, step_access};
 ghost use Rattle.ds_exporter.specs.Stamping.{IsBefore, IsUpTo};
+ghost use Rattle.ds_exporter.specs.Stepping.{proc_actor};
 
 use crate::exporter::Exporter;
 use crate::moved::Moved;
@@ -69,6 +71,7 @@ impl Exporter {
         ensures still { IfOk result (λ ran. ran ≡ Some Moved.Still → self.new ≡ self.old) }
         ensures changed { IfOk result (λ ran. ran ≡ Some Moved.Changed → host_of self.new ≢ host_of self.old) }
         ensures site { OnOk result (site_of self.new ≡ site_of self.old) }
+        ensures entered { IfOk result (λ ran. ran ≢ None → Enters stamp (proc_actor self.old.host place) (step_access place self.old) self.old self.new) }
         ensures err { OnErr result (self.new ≡ self.old) }
         ensures stamps { IsUpTo stamp self.new }
     {

@@ -10,7 +10,7 @@ ghost use Rattle.ds_exporter.specs.HostStates.{HostProcess};
 ghost use Rattle.ds_exporter.specs.PlainHosts.{arrived_at, conn_at, host_of, site_of};
 ghost use Rattle.ds_exporter.specs.Moving.{Moves};
 ghost use Rattle.ds_exporter.specs.Running.{inside_of};
-ghost use Rattle.ds_exporter.specs.Entering.{Enters};
+ghost use Rattle.ds_exporter.specs.Entering.{Enters, step_access};
 ghost use Rattle.ds_exporter.specs.Stamping.{IsBefore, IsUpTo};
 ghost use Rattle.ds_exporter.specs.Stepping.{GoesAlong, Steps, proc_actor};
 
@@ -96,7 +96,7 @@ impl Exporter {
         ensures still { result ≡ Ok Moved.Still → self.new ≡ self.old }
         ensures err { OnErr result (self.new ≡ self.old) }
         ensures stamps { IsUpTo stamp self.new }
-        ensures entered { OnOk result (Enters stamp (proc_actor self.old.host index) self.old self.new) }
+        ensures entered { OnOk result (Enters stamp (proc_actor self.old.host index) (step_access index self.old) self.old self.new) }
         ensures faults { K.faults keeper.old ≤ K.faults keeper.new }
         ensures fault { result ≡ Err CoreFault.KeeperFault → Rose (K.faults keeper.old) (K.faults keeper.new) }
         ensures untouched { result ≡ Err CoreFault.NoMemory → keeper.new ≡ keeper.old }

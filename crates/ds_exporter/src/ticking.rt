@@ -6,7 +6,7 @@ ghost use Rattle.ds_model.specs.Step.{ticked};
 ghost use Rattle.ds_exporter.specs.PlainHosts.{host_of, site_of};
 ghost use Rattle.ds_exporter.specs.Moving.{Moves};
 ghost use Rattle.ds_exporter.specs.Conditions.{clock_actor};
-ghost use Rattle.ds_exporter.specs.Entering.{Enters};
+ghost use Rattle.ds_exporter.specs.Entering.{Enters, tick_access};
 ghost use Rattle.ds_exporter.specs.Stamping.{IsBefore, IsUpTo};
 
 use crate::exporter::Exporter;
@@ -25,7 +25,7 @@ impl Exporter {
         ensures still { result ≡ Ok Moved.Still → self.new ≡ self.old }
         ensures err { OnErr result (self.new ≡ self.old) }
         ensures stamps { IsUpTo stamp self.new }
-        ensures entered { OnOk result (Enters stamp (clock_actor self.old.host) self.old self.new) }
+        ensures entered { OnOk result (Enters stamp (clock_actor self.old.host) (tick_access to self.old) self.old self.new) }
     {
         if to <= self.parts.desk.moment {
             return Ok(Moved::Still);

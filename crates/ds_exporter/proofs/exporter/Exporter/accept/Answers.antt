@@ -1,13 +1,14 @@
-use Rattle.std.proofs.Common.{map, subst}
+use Rattle.std.proofs.Common.{◌≡◌, Some, map, slice_get, subst}
+use Rattle.ds_inlet.specs.Connections.{Connection}
+use Rattle.ds_exporter.specs.Entering.{Enters, accept_access}
 use Rattle.ds_model.specs.ConnectionStep.{accept}
 use Rattle.ds_model.specs.Step.{perform_conn}
 use Rattle.ds_scheme.specs.TheScheme.{scheme}
 use Rattle.ds_exporter.specs.HostStates.{HostState, connection_of, inlet_of, state_of}
 use Rattle.ds_exporter.specs.PlainHosts.{arrived_at, conn_at, ends_of, host_of, site_of}
 use Rattle.ds_exporter.specs.Moving.{Moves}
-use Rattle.ds_exporter.proofs.Ends.{arrived_all, below_all, fits_all, moves_all, others_all, site_all, still_all}
+use Rattle.ds_exporter.proofs.Ends.{arrived_all, below_all, enters_next, fits_all, moves_all, others_all, site_all, still_all}
 use Rattle.ds_exporter.proofs.IfDone.{still_is}
-use Rattle.ds_exporter.proofs.Entering.{enters_counted}
 use Rattle.ds_exporter.proofs.exporter.Exporter.accept.Goals as goal
 
 pub invariant_of-self-2 : goal.invariant_of-self-2
@@ -56,5 +57,8 @@ returns-clause-stamps c =
 
 pub returns-clause-entered : goal.returns-clause-entered
 returns-clause-entered c =
-    rw (← c.self.view_is)
-    (λ k h. enters_counted c.args.stamp c.args.conn (state_of c.self.inside.parts) (map connection_of c.accept_at.new.conns.items) (map inlet_of c.accept_at.new.inlets.items) k.who (c.in_ok-moved.ensures.ok k h).2.counts)
+    let e = state_of c.self.inside.parts in
+    let conns = map connection_of c.accept_at.new.conns.items in
+    let later = map inlet_of c.accept_at.new.inlets.items in
+    λ link. subst (λ (s : HostState). (k : Connection) → slice_get s.conns c.args.conn ≡ Some k → Enters c.args.stamp k.who (accept_access link c.args.conn s) s (record e { conns = conns; inlets = later })) c.self.view_is
+    (λ k h. enters_next e c.args.conn c.args.stamp c.in_ok-moved.moved k (c.in_ok-moved.ensures.ok k h).0 later h (c.in_ok-moved.ensures.ok k h).2 c.self.invariant link conns)

@@ -1,6 +1,7 @@
 use Rattle.std.proofs.Common.{◌≡◌, ◌≤◌, sym, ap, ◌∙◌, subst, slice_get}
 use Rattle.ds_model.specs.Desk.{Looked}
 use Rattle.ds_model.specs.Desk.{Desk}
+use Rattle.ds_model.specs.Access.{InDesk}
 use Rattle.ds_desk.specs.declared.state.DeskState.{DeskState}
 use Rattle.ds_desk.specs.Desks.{DeskView, IsReplay, kept_of, desk_of, entered}
 use Rattle.ds_model.specs.Step.{step_lane}
@@ -9,12 +10,12 @@ use Rattle.ds_exporter.specs.HostStates.{HostState, state_of}
 use Rattle.ds_exporter.specs.PlainHosts.{host_of, site_of}
 use Rattle.ds_exporter.specs.Checking.{lane_rule, with_checked}
 use Rattle.ds_exporter.specs.Stamping.{last_of_desk}
-use Rattle.ds_exporter.proofs.CheckedHosts.{fits_checked, plan_checked, below_with_checked, checked_host_is, checked_host_moved}
+use Rattle.ds_exporter.proofs.CheckedHosts.{fits_checked, plan_checked, below_with_checked, checked_host_is, checked_host_moved, checked_touches}
 use Rattle.ds_script.specs.declared.actor.Actor.{Actor}
 use Rattle.ds_exporter.specs.Conditions.{lane_actor}
-use Rattle.ds_exporter.specs.Entering.{Enters}
+use Rattle.ds_exporter.specs.Entering.{Enters, frame_access}
 use Rattle.ds_exporter.proofs.Places.{there_is}
-use Rattle.ds_exporter.proofs.Entering.{enters_checked, worker_is}
+use Rattle.ds_exporter.proofs.Entering.{enters_by, enters_checked, worker_is}
 use Rattle.ds_exporter.proofs.exporter.Exporter.check.Goals as goal
 
 pub invariant_of-self-2 : goal.invariant_of-self-2
@@ -72,7 +73,11 @@ returns-clause-entered g c =
     let whole : state_of (record c.self.inside.parts { desk = c.look.new.self; lanes = c.settle_at.new.lanes }) ≡ with_checked c.args.stamp c.args.place c.worker_at-who.result c.in_ok-rule.rule e = λ i. record e { desk = desk i; lanes = c.in_ok-settle_at.ensures.ok i } in
     let who : c.worker_at-who.result ≡ lane_actor e.host c.args.place
     = there_is (c.worker_at-who.result ≡ lane_actor e.host c.args.place) e.lanes c.args.place within (λ l h. c.worker_at-who.ensures.who l h ∙ worker_is e c.args.place c.self.invariant l h) in
-    subst (λ (s : HostState). Enters c.args.stamp (lane_actor c.args.self.now.host c.args.place) c.args.self.now s) (sym whole)
-    (subst (λ (s : HostState). Enters c.args.stamp (lane_actor s.host c.args.place) s (with_checked c.args.stamp c.args.place c.worker_at-who.result c.in_ok-rule.rule e)) c.self.view_is
-    (subst (λ (a : Actor). Enters c.args.stamp a e (with_checked c.args.stamp c.args.place c.worker_at-who.result c.in_ok-rule.rule e)) who
-    (enters_checked c.args.stamp c.worker_at-who.result c.args.place c.in_ok-rule.rule e)))
+    let some = rw (← c.self.view_is) at c.requires.some in
+    let below = rw (← c.self.view_is) at c.requires.later in
+    let after = with_checked c.args.stamp c.args.place c.worker_at-who.result c.in_ok-rule.rule e in
+    subst (λ (s : HostState). Enters c.args.stamp (lane_actor c.args.self.now.host c.args.place) (frame_access c.args.place c.args.self.now) c.args.self.now s) (sym whole)
+    (subst (λ (s : HostState). Enters c.args.stamp (lane_actor s.host c.args.place) (frame_access c.args.place s) s after) c.self.view_is
+    (enters_by c.args.stamp (lane_actor e.host c.args.place) (frame_access c.args.place e) (InDesk Looked) e after
+    (checked_touches e c.args.place c.args.stamp within below some (λ l h. c.worker_at-who.ensures.keeps l h))
+    (subst (λ (a : Actor). Enters c.args.stamp a (InDesk Looked) e after) who (enters_checked c.args.stamp c.worker_at-who.result c.args.place c.in_ok-rule.rule e))))

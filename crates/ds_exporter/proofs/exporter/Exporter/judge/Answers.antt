@@ -9,8 +9,7 @@ use Rattle.ds_exporter.specs.PlainHosts.{ends_of}
 use Rattle.ds_exporter.specs.Conditions.{HasHelloFirst, IsBoxNamed}
 use Rattle.ds_exporter.proofs.Places.{all_get}
 use Rattle.ds_exporter.proofs.DeliverPuts.{delivered}
-use Rattle.ds_exporter.proofs.DeliverJudges.{arrived_judged_all, below_judged_all, changed_judged_all, ends_judged_all, fits_judged_all, others_judged_all, site_judged_all}
-use Rattle.ds_exporter.proofs.Entering.{enters_at_desk}
+use Rattle.ds_exporter.proofs.DeliverJudges.{arrived_judged_all, below_judged_all, changed_judged_all, ends_judged_all, enters_judged_all, fits_judged_all, others_judged_all, site_judged_all}
 use Rattle.ds_exporter.proofs.exporter.Exporter.judge.Goals as goal
 
 pub judge_at-requires-clause-table : goal.judge_at-requires-clause-table
@@ -91,6 +90,8 @@ returns-clause-looked c =
 
 pub returns-clause-entered : goal.returns-clause-entered
 returns-clause-entered c =
-    rw (← c.self.view_is)
-    (λ k h. enters_at_desk c.args.stamp k.who Looked (state_of c.self.inside.parts) (kept_of c.look.new.self) (map connection_of c.judge_at.new.conns.items)
-    ((c.look.ensures.entry ∙ ap (λ (d : DeskState). entered c.args.stamp c.who_at-who.result Looked (kept_of d)) c.in_ok-judge_at.ensures.same) ∙ ap₂ (λ (who : Actor) (d : DeskView). entered c.args.stamp who Looked d) (c.who_at-who.ensures k h) c.in_ok-reserve.ensures.same))
+    let e = state_of c.self.inside.parts in
+    let within = rw (← c.self.view_is) at c.requires.there in
+    let ready = rw (← c.self.view_is) at c.requires.ready in
+    rw (← c.self.view_is) (λ link k there. enters_judged_all e c.args.place c.args.stamp c.who_at-who.result (kept_of c.reserve.new.self) (kept_of c.look.new.self) (map connection_of c.judge_at.new.conns.items) within (λ k h. ready k h) c.self.invariant
+    c.in_ok-reserve.ensures.same (c.look.ensures.entry ∙ ap (λ (d : DeskState). entered c.args.stamp c.who_at-who.result Looked (kept_of d)) c.in_ok-judge_at.ensures.same) (λ k h. c.in_ok-judge_at.ensures.ok k h) k there (c.who_at-who.ensures k there) link)

@@ -8,8 +8,7 @@ use Rattle.ds_exporter.specs.Conditions.{IsLaneOf}
 use Rattle.ds_exporter.specs.Stamping.{IsLaneBefore}
 use Rattle.ds_map.proofs.Sets.{true_false}
 use Rattle.ds_exporter.proofs.Places.{all_get, there_is}
-use Rattle.ds_exporter.proofs.OneLane.{with_lane, fits_lane, keeps_lifted, plan_lane, below_lane, below_lifted, lifts, still_lifted, hand_moved}
-use Rattle.ds_exporter.proofs.Entering.{enters_lifted}
+use Rattle.ds_exporter.proofs.OneLane.{with_lane, fits_lane, keeps_lifted, plan_lane, below_lane, below_lifted, lifts, still_lifted, hand_moved, lift_enters}
 use Rattle.ds_exporter.proofs.exporter.Exporter.lift.Goals as goal
 
 pub lift_at-requires-clause-ready : goal.lift_at-requires-clause-ready
@@ -90,7 +89,15 @@ returns-clause-stamps c =
     rw c.in_ok-lift_at.ensures.ok (below_lane c.args.stamp e c.args.place (lifted_lane c.args.stamp) (λ l h. below_lifted c.args.stamp l) below)
 
 pub returns-then-branch-clause-entered : goal.returns-then-branch-clause-entered
-returns-then-branch-clause-entered c = rw (c.in_ok-lift_at.ensures.ok, ← c.self.view_is) (enters_lifted c.args.stamp c.args.place (state_of c.self.inside.parts) c.self.invariant)
+returns-then-branch-clause-entered c =
+    let e = state_of c.self.inside.parts in
+    let empty = rw (← c.self.view_is) at c.requires.empty in
+    let within = rw (← c.self.view_is) at c.requires.place in
+    rw (c.in_ok-lift_at.ensures.ok, ← c.self.view_is) (lift_enters e c.args.place c.args.stamp c.self.invariant within (λ l h. empty l h))
 
 pub returns-clause-entered : goal.returns-clause-entered
-returns-clause-entered c = rw (c.in_ok-lift_at.ensures.ok, ← c.self.view_is) (enters_lifted c.args.stamp c.args.place (state_of c.self.inside.parts) c.self.invariant)
+returns-clause-entered c =
+    let e = state_of c.self.inside.parts in
+    let empty = rw (← c.self.view_is) at c.requires.empty in
+    let within = rw (← c.self.view_is) at c.requires.place in
+    rw (c.in_ok-lift_at.ensures.ok, ← c.self.view_is) (lift_enters e c.args.place c.args.stamp c.self.invariant within (λ l h. empty l h))

@@ -3,8 +3,7 @@ use Rattle.ds_exporter.specs.HostStates.{HostState, box_of, connection_of, state
 use Rattle.ds_exporter.specs.PlainHosts.{ends_of}
 use Rattle.ds_exporter.specs.Conditions.{PassedHasBox}
 use Rattle.ds_exporter.proofs.Places.{all_get}
-use Rattle.ds_exporter.proofs.DeliverPuts.{arrived_put_all, below_put_all, changed_put_all, delivered, ends_put_all, fits_put_all, others_put_all, site_put_all}
-use Rattle.ds_exporter.proofs.Entering.{enters_put}
+use Rattle.ds_exporter.proofs.DeliverPuts.{arrived_put_all, below_put_all, changed_put_all, delivered, ends_put_all, enters_passed, fits_put_all, others_put_all, site_put_all}
 use Rattle.ds_exporter.proofs.exporter.Exporter.put.Goals as goal
 
 pub put_passed-requires-clause-ready : goal.put_passed-requires-clause-ready
@@ -69,6 +68,4 @@ returns-clause-stamps c =
 pub returns-clause-entered : goal.returns-clause-entered
 returns-clause-entered c =
     rw (← c.self.view_is)
-    (λ k h.
-    let put = (c.in_ok-put_passed.ensures.ok k h).2 in
-    enters_put c.args.stamp c.args.place (state_of c.self.inside.parts) (map connection_of c.put_passed.new.conns.items) (map box_of c.put_passed.new.boxes.items) k.who put.place put.mail put.puts)
+    (λ link k h. enters_passed (state_of c.self.inside.parts) c.args.place c.args.stamp k (c.in_ok-put_passed.ensures.ok k h).0 (map box_of c.put_passed.new.boxes.items) h c.self.invariant (c.in_ok-put_passed.ensures.ok k h).2 link (map connection_of c.put_passed.new.conns.items))

@@ -1,11 +1,9 @@
 use Rattle.std.proofs.Common.{◌≡◌, None, Some, slice_get, sym, subst}
 use Rattle.ds_exporter.specs.HostStates.{HostProcess, HostState}
 use Rattle.ds_exporter.proofs.QueueSteps.{empty_hand}
-use Rattle.ds_model.specs.Lists.{at}
-use Rattle.ds_exporter.specs.Entering.{Enters}
-use Rattle.ds_exporter.specs.Running.{ran_inside}
+use Rattle.ds_exporter.specs.Entering.{Enters, step_access}
 use Rattle.ds_exporter.specs.Stepping.{proc_actor}
-use Rattle.ds_exporter.proofs.Entering.{enters_procs, steps_enter}
+use Rattle.ds_exporter.proofs.Entering.{steps_enter}
 use Rattle.ds_exporter.proofs.exporter.Exporter.step.Goals as goal
 
 pub step_inside-requires-clause-free : goal.step_inside-requires-clause-free
@@ -20,11 +18,7 @@ step_outside-requires-clause-free g c =
 pub returns-then-has_hand-clause-entered : goal.returns-then-has_hand-clause-entered
 returns-then-has_hand-clause-entered g c = steps_enter c.in_ok-moved.moved c.args.stamp c.args.index c.args.self.now c.queue.new.self c.in_ok-moved.ensures.ok
 
-pub returns-in-Some-clause-entered : goal.returns-in-Some-clause-entered
-returns-in-Some-clause-entered g c =
-    enters_procs c.args.stamp (proc_actor c.args.self.now.host c.args.index) c.args.self.now c.step_inside.new.self (at c.args.index ran_inside c.args.self.now.procs) c.in_ok-moved-2.ensures.state
-
 pub returns-clause-entered : goal.returns-clause-entered
 returns-clause-entered g c =
-    subst (λ (s : HostState). Enters c.args.stamp (proc_actor s.host c.args.index) s c.step_outside.new.self) (c.in_ok-moved-2.ensures.outer c.in_default.is).0
+    subst (λ (s : HostState). Enters c.args.stamp (proc_actor s.host c.args.index) (step_access c.args.index s) s c.step_outside.new.self) (c.in_ok-moved-2.ensures.outer c.in_default.is).0
     (steps_enter c.in_ok-moved-3.moved c.args.stamp c.args.index c.step_inside.new.self c.step_outside.new.self c.in_ok-moved-3.ensures.ok)

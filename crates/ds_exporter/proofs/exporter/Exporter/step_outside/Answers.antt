@@ -2,6 +2,8 @@ use Rattle.std.proofs.Common.{◌≡◌, ◌<◌, length, sym, subst}
 use Rattle.ds_exporter.specs.HostStates.{HostState}
 use Rattle.ds_exporter.specs.PlainHosts.{host_of}
 use Rattle.ds_exporter.specs.Asking.{AsksSo, IsSameUnless}
+use Rattle.ds_model.specs.Access.{NoAccess}
+use Rattle.ds_exporter.specs.Entering.{step_access}
 use Rattle.ds_exporter.specs.Stamping.{IsBefore}
 use Rattle.ds_exporter.specs.Stepping.{next_host}
 use Rattle.ds_exporter.proofs.OneStep.{stepped_from, waits_still}
@@ -12,7 +14,11 @@ returns-in-Waits-clause-ok g c =
     let same = subst (IsSameUnless c.args.index c.args.self.now c.ask.new.self) c.in-Waits.is c.in_ok-ask.ensures.same in
     let asked = subst (AsksSo c.args.index c.ask.new.self) c.in-Waits.is c.in_ok-ask.ensures.asks in
     let within = subst (λ (s : HostState). c.args.index < length s.procs) (sym same) c.requires.there in
-    (same, subst (λ (s : HostState). host_of s ≡ next_host c.args.index s) same (waits_still c.ask.new.self c.args.index within (λ x h. asked x h)))
+    let still = waits_still c.ask.new.self c.args.index within (λ x h. asked x h) in (
+      same,
+      subst (λ (s : HostState). host_of s ≡ next_host c.args.index s) same still.0,
+      subst (λ (s : HostState). step_access c.args.index s ≡ NoAccess) same still.1,
+    )
 
 pub returns-in-Internal-clause-ok : goal.returns-in-Internal-clause-ok
 returns-in-Internal-clause-ok g c =

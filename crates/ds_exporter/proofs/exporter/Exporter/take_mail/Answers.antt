@@ -50,8 +50,10 @@ returns-in-Err-clause-ok c =
     let e = state_of c.self.inside.parts in
     let within = rw (← c.self.view_is) at c.requires.there in
     let inside = rw (← c.self.view_is) at c.requires.place in
-    let asks = rw (← c.self.view_is) at c.requires.asks in (
+    let asks = rw (← c.self.view_is) at c.requires.asks in
+    let still = still_take e c.args.index c.args.place c.args.reg c.args.slot within inside (λ x h. asks x h)
+    (λ b h. c.in-Err.ensures.taken b (ap (λ (bs : List HostBox). slice_get bs c.args.place) c.in_ok-reserve_box.ensures.same ∙ h)) in (
       rw (c.in_ok-reserve_proc.ensures.same, c.in-Err.ensures.err, c.in_ok-reserve_box.ensures.same) c.self.view_is,
-      rw (← c.self.view_is) (still_take e c.args.index c.args.place c.args.reg c.args.slot within inside (λ x h. asks x h)
-          (λ b h. c.in-Err.ensures.taken b (ap (λ (bs : List HostBox). slice_get bs c.args.place) c.in_ok-reserve_box.ensures.same ∙ h))),
+      rw (← c.self.view_is) still.0,
+      rw (← c.self.view_is) still.1,
     )
