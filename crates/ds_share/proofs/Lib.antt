@@ -2,3 +2,5 @@ mod Pieces
 mod Tellings
 mod Arrivals
 mod Judgements
+mod Entries
+mod DeskRanges

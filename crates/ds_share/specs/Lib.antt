@@ -4,5 +4,6 @@ pub mod Mailboxes
 pub mod SharedInlets
 pub mod SharedLanes
 pub mod Desks
+pub mod Entries
 pub mod DeskInside
 pub mod Tells

@@ -1,17 +1,20 @@
 //! A desk behind a lock.
 
-ghost use Rattle.std.specs.Prelude.{◌≡◌, ◌≢◌, ◌<◌, ◌≤◌, ◌-◌, ◌^◌, max, take, Err, IfOk, IfErr, OnOk, OnErr};
+ghost use Rattle.std.specs.Prelude.{◌≡◌, ◌≢◌, ◌<◌, ◌≤◌, ◌-◌, ◌^◌, map, max, take, Err, IfOk, IfErr, OnOk, OnErr};
 ghost use Rattle.std.specs.Sync.Mutex.{mutex_guard_value};
 ghost use Rattle.ds_base.specs.Counts.{Rose};
 ghost use Rattle.ds_model.specs.Scheme.{Scheme};
 ghost use Rattle.ds_model.specs.Plan.{HostPlan};
 ghost use Rattle.ds_desk.specs.Desks.{IsKept, entered, kept_of, last_stamp};
 ghost use Rattle.ds_share.specs.Desks.{IsReceiptOfAct, MayAct, SaysOf, SparesKeeper, answer_for, change_for, desk_receipt, given_for, last_of_desk};
+ghost use Rattle.ds_share.specs.Entries.{AreRising, SpellsDesk, desk_spelled};
 ghost use Rattle.ds_share.specs.Tells.{Tells, told};
 
 use crate::desk_act::{DeskAct, DeskReply, TurnFault};
 use crate::desk_acts::{delegate, import, look, map_foreign, tick};
+use crate::desk_history::entries_of;
 use crate::desk_judging::{judge_arrived, judge_framed, judge_sent};
+use crate::entry::SpelledEntry;
 use crate::lending::stamp_after;
 use crate::receipt::Receipt;
 use crate::told::Told;
@@ -19,7 +22,7 @@ use ds_base::Keeper;
 use ds_desk::DeskState;
 use ds_label::PubKey;
 use ds_script::Actor;
-use std::alloc::Global;
+use std::alloc::{AllocError, Global};
 use std::marker::Model;
 use std::sync::{Mutex, MutexGuard, Wait};
 
@@ -255,4 +258,23 @@ impl SharedDesk {
         let mut desk = self.lend(rt, stamp);
         act_in(&mut desk, self.alloc, keeper, stamp, who, act)
     }
+
+    /// The entries since the desk's opening, in order, spelled. No clause says which acts they are of, since other callers may
+    /// take the lock at any time. `AllocError` where memory runs out.
+    pub fn entries<R: Wait>(&self, rt: &R) -> Result<Vec<SpelledEntry>, AllocError>
+        ensures spelled { IfOk result (λ v. SpellsDesk v.items) }
+        ensures rising { IfOk result (λ v. AreRising v.items) }
+    {
+        let desk = self.state.lock(rt);
+        desk_entries(&desk, self.alloc)
+    }
+}
+
+/// The entries of a desk that a lock lends, since its opening, in order, spelled. `AllocError` where memory runs out.
+pub fn desk_entries(desk: &LockedDesk, alloc: Global) -> Result<Vec<SpelledEntry>, AllocError>
+    ensures entries { IfOk result (λ v. v.items ≡ map desk_spelled desk.now.history) }
+    ensures spelled { IfOk result (λ v. SpellsDesk v.items) }
+    ensures rising { IfOk result (λ v. AreRising v.items) }
+{
+    entries_of(&desk.state, alloc)
 }

@@ -26,15 +26,15 @@ use ds_wire::{Buffer, Bytes};
 use std::alloc::{AllocError, Global};
 
 /// The acts of a desk's entries as numbers.
-const LOOK: u8 = 1;
+pub(crate) const LOOK: u8 = 1;
 
-const TICK: u8 = 2;
+pub(crate) const TICK: u8 = 2;
 
-const DELEGATED: u8 = 3;
+pub(crate) const DELEGATED: u8 = 3;
 
-const IMPORTED: u8 = 4;
+pub(crate) const IMPORTED: u8 = 4;
 
-const MAPPED: u8 = 5;
+pub(crate) const MAPPED: u8 = 5;
 
 /// Most bytes of a delegation's spelling.
 const DELEGATION_LIMIT: usize = 2704;
@@ -206,7 +206,7 @@ pub(crate) fn import(
 
 /// A category, spelled. `AllocError` where memory runs out.
 #[tactic(auto, unfolding(ds_cert::specs::Spelling::spelling_of_category))]
-fn category_bytes(alloc: Global, category: &Category) -> Result<Bytes, AllocError>
+pub(crate) fn category_bytes(alloc: Global, category: &Category) -> Result<Bytes, AllocError>
     ensures { IfOk result (λ bytes. bytes ≡ spelling_of_category category.now) }
 {
     let mut out = Bytes::new(alloc);

@@ -1,15 +1,17 @@
 //! An inlet behind a lock.
 
-ghost use Rattle.std.specs.Prelude.{◌≡◌, ◌<◌, ◌-◌, ◌^◌, max, nat_lt, true, false, Some, IfOk, MatchOption};
+ghost use Rattle.std.specs.Prelude.{◌≡◌, ◌<◌, ◌-◌, ◌^◌, map, max, nat_lt, true, false, Some, IfOk, MatchOption};
 ghost use Rattle.std.specs.Int.{w32, to_be_bytes};
 ghost use Rattle.ds_model.specs.Inlet.{is_fresh, number_entry};
 ghost use Rattle.ds_inlet.specs.Inlets.{act_of, entered, last_stamp};
-ghost use Rattle.ds_share.specs.SharedInlets.{IsReceiptOfAccept, act_number, inlet_receipt};
+ghost use Rattle.ds_share.specs.Entries.{AreRising, SpellsInlet, inlet_spelled};
+ghost use Rattle.ds_share.specs.SharedInlets.{IsReceiptOfAccept, act_body, act_number, inlet_receipt};
 
+use crate::entry::SpelledEntry;
 use crate::lending::{lend, stamp_after};
 use crate::receipt::Receipt;
 use crate::spelling::number_bytes;
-use ds_inlet::{Inlet, Stale};
+use ds_inlet::{Inlet, InletAct, InletEntry, Stale};
 use ds_script::Actor;
 use ds_wire::Bytes;
 use std::alloc::{AllocError, Global};
@@ -56,6 +58,62 @@ impl SharedInlet {
         state.reserve()?;
         Ok(accept_in(&mut state, self.alloc, stamp, who, number, body))
     }
+
+    /// The entries since the inlet's opening, in order, spelled. No clause says which calls they are of, since other callers may
+    /// take the lock at any time. `AllocError` where memory runs out.
+    pub fn entries<R: Wait>(&self, rt: &R) -> Result<Vec<SpelledEntry>, AllocError>
+        ensures spelled { IfOk result (λ v. SpellsInlet v.items) }
+        ensures rising { IfOk result (λ v. AreRising v.items) }
+    {
+        let state = self.state.lock(rt);
+        inlet_entries(&state, self.alloc)
+    }
+}
+
+/// The number of an entry's act.
+fn number_of(act: &InletAct) -> u8
+    ensures { result ≡ act_number act.now }
+{
+    match act {
+        InletAct::Fresh(_) => FRESH,
+        InletAct::Stale(_) => STALE,
+    }
+}
+
+/// What an entry says beside its act. `AllocError` where memory runs out.
+fn body_of(alloc: Global, act: &InletAct) -> Result<Bytes, AllocError>
+    ensures { IfOk result (λ bytes. bytes ≡ act_body act.now) }
+{
+    match act {
+        InletAct::Fresh(number) => number_bytes(alloc, *number),
+        InletAct::Stale(number) => number_bytes(alloc, *number),
+    }
+}
+
+/// Entries, spelled. `AllocError` where memory runs out.
+fn spelled(alloc: Global, entries: &[InletEntry]) -> Result<Vec<SpelledEntry>, AllocError>
+    ensures { IfOk result (λ v. v.items ≡ map inlet_spelled entries.now) }
+{
+    let mut out = Vec::with_capacity(alloc, entries.len())?;
+    for entry in entries {
+        out.push(SpelledEntry {
+            stamp: entry.stamp,
+            who: entry.who,
+            act: number_of(&entry.act),
+            body: body_of(alloc, &entry.act)?,
+        })?;
+    }
+    Ok(out)
+}
+
+/// The entries of an inlet that a lock lends, since its opening, in order, spelled. `AllocError` where memory runs out.
+pub fn inlet_entries(state: &Inlet, alloc: Global) -> Result<Vec<SpelledEntry>, AllocError>
+    ensures entries { IfOk result (λ v. v.items ≡ map inlet_spelled state.now.inlet.history) }
+    ensures spelled { IfOk result (λ v. SpellsInlet v.items) }
+    ensures rising { IfOk result (λ v. AreRising v.items) }
+{
+    state.is_replay();
+    spelled(alloc, state.history())
 }
 
 /// The number of the act that a frame's number would enter.

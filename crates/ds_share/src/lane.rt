@@ -1,6 +1,6 @@
 //! What waits on a lane, behind a lock.
 
-ghost use Rattle.std.specs.Prelude.{◌≡◌, ◌↔◌, ◌<◌, ◌-◌, ◌^◌, [], max, min, take, length, All, Err, IfOk, IfErr, OnErr, IsTrue};
+ghost use Rattle.std.specs.Prelude.{◌≡◌, ◌↔◌, ◌<◌, ◌-◌, ◌^◌, [], map, max, min, take, length, All, Err, IfOk, IfErr, OnErr, IsTrue};
 ghost use Rattle.std.specs.List.{flat_map};
 ghost use Rattle.std.specs.Int.{w32, to_be_bytes};
 ghost use Rattle.std.specs.Sync.Mutex.{mutex_guard_value};
@@ -8,14 +8,16 @@ ghost use Rattle.ds_msg.specs.Spelling.{spelling_of_message};
 ghost use Rattle.ds_model.specs.Lane.{admit_entry, front, frame_limit};
 ghost use Rattle.ds_lane.specs.declared.batch.Waiting.{Waiting};
 ghost use Rattle.ds_lane.specs.Lanes.{IsOn, WaitsOn, act_of, entered, last_stamp, lift_entry, sent_by};
-ghost use Rattle.ds_share.specs.SharedLanes.{IsReceiptOfAdmit, IsReceiptOfLift, IsSameLane, act_number, lane_receipt};
+ghost use Rattle.ds_share.specs.Entries.{AreRising, LaneActRange, SpellsLane, lane_spelled};
+ghost use Rattle.ds_share.specs.SharedLanes.{IsReceiptOfAdmit, IsReceiptOfLift, IsSameLane, act_body, act_number, lane_receipt};
 ghost use Rattle.ds_share.specs.Spelling.{spelling_of_waiting};
 
+use crate::entry::SpelledEntry;
 use crate::lending::stamp_after;
 use crate::receipt::Receipt;
 use crate::spelling::{append_waiting, number_bytes};
 use ds_cert::LaneCert;
-use ds_lane::{BodyBatch, LaneState, LiftEnd};
+use ds_lane::{BodyBatch, LaneAct, LaneEntry, LaneState, LiftEnd};
 use ds_msg::Message;
 use ds_script::Actor;
 use ds_wire::Bytes;
@@ -145,6 +147,66 @@ impl SharedLane {
         let mut state = self.lend(rt, stamp);
         lift_in(&mut state, self.alloc, stamp, who)
     }
+
+    /// The entries since the lane's opening, in order, spelled. No clause says which calls they are of, since other callers may
+    /// take the lock at any time. `AllocError` where memory runs out.
+    pub fn entries<R: Wait>(&self, rt: &R) -> Result<Vec<SpelledEntry>, AllocError>
+        ensures spelled { IfOk result (λ v. SpellsLane v.items) }
+        ensures rising { IfOk result (λ v. AreRising v.items) }
+    {
+        let state = self.state.lock(rt);
+        lane_entries(&state, self.alloc)
+    }
+}
+
+/// The number of an entry's act.
+fn number_of(act: &LaneAct) -> u8
+    ensures { result ≡ act_number act.now }
+{
+    match act {
+        LaneAct::Queued(_) => QUEUED,
+        LaneAct::Full(_) => FULL,
+        LaneAct::Lifted(_) => LIFTED,
+    }
+}
+
+/// What an entry says beside its act. `AllocError` where memory runs out.
+fn body_of(alloc: Global, act: &LaneAct) -> Result<Bytes, AllocError>
+    requires { LaneActRange act.now }
+    ensures { IfOk result (λ bytes. bytes ≡ act_body act.now) }
+{
+    match act {
+        LaneAct::Queued(waiting) => waiting.message.encode(),
+        LaneAct::Full(waiting) => waiting.message.encode(),
+        LaneAct::Lifted(count) => number_bytes(alloc, *count),
+    }
+}
+
+/// Entries, spelled. `AllocError` where memory runs out.
+fn spelled(alloc: Global, entries: &[LaneEntry]) -> Result<Vec<SpelledEntry>, AllocError>
+    requires { All (λ entry. LaneActRange entry.act) entries.now }
+    ensures { IfOk result (λ v. v.items ≡ map lane_spelled entries.now) }
+{
+    let mut out = Vec::with_capacity(alloc, entries.len())?;
+    for entry in entries {
+        out.push(SpelledEntry {
+            stamp: entry.stamp,
+            who: entry.who,
+            act: number_of(&entry.act),
+            body: body_of(alloc, &entry.act)?,
+        })?;
+    }
+    Ok(out)
+}
+
+/// The entries of a lane that a lock lends, since its opening, in order, spelled. `AllocError` where memory runs out.
+pub fn lane_entries(state: &LaneState, alloc: Global) -> Result<Vec<SpelledEntry>, AllocError>
+    ensures entries { IfOk result (λ v. v.items ≡ map lane_spelled state.now.lane.history) }
+    ensures spelled { IfOk result (λ v. SpellsLane v.items) }
+    ensures rising { IfOk result (λ v. AreRising v.items) }
+{
+    state.is_replay();
+    spelled(alloc, state.history())
 }
 
 /// The number of the act that a message would enter.

@@ -10,7 +10,9 @@
 mod desk;
 mod desk_act;
 mod desk_acts;
+mod desk_history;
 mod desk_judging;
+mod entry;
 mod inlet;
 mod lane;
 mod lending;
@@ -19,9 +21,10 @@ mod receipt;
 mod spelling;
 mod told;
 
-pub use desk::{LockedDesk, SharedDesk, act_in};
+pub use desk::{LockedDesk, SharedDesk, act_in, desk_entries};
 pub use desk_act::{DeskAct, DeskReply, TurnFault};
-pub use inlet::{SharedInlet, accept_in};
-pub use lane::{SharedLane, admit_in, lift_in};
-pub use mailbox::{SharedBox, TakeEnd, put_in, take_in};
+pub use entry::SpelledEntry;
+pub use inlet::{SharedInlet, accept_in, inlet_entries};
+pub use lane::{SharedLane, admit_in, lane_entries, lift_in};
+pub use mailbox::{SharedBox, TakeEnd, box_entries, put_in, take_in};
 pub use receipt::Receipt;

@@ -1,17 +1,19 @@
 //! A mailbox behind a lock.
 
-ghost use Rattle.std.specs.Prelude.{◌≡◌, ◌↔◌, ◌<◌, ◌-◌, ◌^◌, [], max, slice_get, Err, Some, IfOk, IfErr, OnErr};
+ghost use Rattle.std.specs.Prelude.{◌≡◌, ◌↔◌, ◌<◌, ◌-◌, ◌^◌, [], max, map, slice_get, All, Err, Some, IfOk, IfErr, OnErr};
 ghost use Rattle.ds_msg.specs.declared.local.LocalMessage.{LocalMessage};
 ghost use Rattle.ds_model.specs.Mailbox.{put_entry, TookOut};
-ghost use Rattle.ds_box.specs.Boxes.{IsShortMail, act_of, entered, last_stamp};
-ghost use Rattle.ds_share.specs.Mailboxes.{IsReceiptOfPut, IsReceiptOfTake, act_number, box_receipt};
+ghost use Rattle.ds_box.specs.Boxes.{IsShortAct, IsShortMail, act_of, entered, last_stamp};
+ghost use Rattle.ds_share.specs.Entries.{AreRising, SpellsBox, box_spelled};
+ghost use Rattle.ds_share.specs.Mailboxes.{IsReceiptOfPut, IsReceiptOfTake, act_body, act_number, box_receipt};
 ghost use Rattle.ds_share.specs.Spelling.{spelling_of_mail};
 
+use crate::entry::SpelledEntry;
 use crate::lending::{lend, stamp_after};
 use crate::receipt::Receipt;
 use crate::spelling::mail_bytes;
 use ds_base::Gate;
-use ds_box::BoxState;
+use ds_box::{BoxAct, BoxEntry, BoxState};
 use ds_msg::LocalMessage;
 use ds_script::Actor;
 use ds_wire::Bytes;
@@ -106,6 +108,66 @@ impl SharedBox {
         let mut state = lend(rt, &self.state, stamp);
         take_in(&mut state, self.alloc, stamp, who)
     }
+
+    /// The entries since the mailbox's opening, in order, spelled. No clause says which calls they are of, since other callers may
+    /// take the lock at any time. `AllocError` where memory runs out.
+    pub fn entries<R: Wait>(&self, rt: &R) -> Result<Vec<SpelledEntry>, AllocError>
+        ensures spelled { IfOk result (λ v. SpellsBox v.items) }
+        ensures rising { IfOk result (λ v. AreRising v.items) }
+    {
+        let state = self.state.lock(rt);
+        box_entries(&state, self.alloc)
+    }
+}
+
+/// The number of an entry's act.
+fn number_of(act: &BoxAct) -> u8
+    ensures { result ≡ act_number act.now }
+{
+    match act {
+        BoxAct::Put(_) => PUT,
+        BoxAct::Full(_) => FULL,
+        BoxAct::Took => TOOK,
+    }
+}
+
+/// What an entry says beside its act. `AllocError` where memory runs out.
+fn body_of(alloc: Global, act: &BoxAct) -> Result<Bytes, AllocError>
+    requires { IsShortAct act.now }
+    ensures { IfOk result (λ bytes. bytes ≡ act_body act.now) }
+{
+    match act {
+        BoxAct::Put(message) => mail_bytes(alloc, message),
+        BoxAct::Full(message) => mail_bytes(alloc, message),
+        BoxAct::Took => Ok(Bytes::new(alloc)),
+    }
+}
+
+/// Entries, spelled. `AllocError` where memory runs out.
+fn spelled(alloc: Global, entries: &[BoxEntry]) -> Result<Vec<SpelledEntry>, AllocError>
+    requires { All (λ entry. IsShortAct entry.act) entries.now }
+    ensures { IfOk result (λ v. v.items ≡ map box_spelled entries.now) }
+{
+    let mut out = Vec::with_capacity(alloc, entries.len())?;
+    for entry in entries {
+        out.push(SpelledEntry {
+            stamp: entry.stamp,
+            who: entry.who,
+            act: number_of(&entry.act),
+            body: body_of(alloc, &entry.act)?,
+        })?;
+    }
+    Ok(out)
+}
+
+/// The entries of a mailbox that a lock lends, since its opening, in order, spelled. `AllocError` where memory runs out.
+pub fn box_entries(state: &BoxState, alloc: Global) -> Result<Vec<SpelledEntry>, AllocError>
+    ensures entries { IfOk result (λ v. v.items ≡ map box_spelled state.now.mailbox.history) }
+    ensures spelled { IfOk result (λ v. SpellsBox v.items) }
+    ensures rising { IfOk result (λ v. AreRising v.items) }
+{
+    state.is_replay();
+    spelled(alloc, state.history())
 }
 
 /// The number of the act that a put would enter.

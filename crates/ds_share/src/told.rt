@@ -11,7 +11,7 @@ use ds_wire::{Buffer, Bytes};
 use std::alloc::{AllocError, Global};
 
 /// The number of a refusal.
-const REFUSED: u8 = 6;
+pub(crate) const REFUSED: u8 = 6;
 
 /// What an act of the desk did: the number of its entry's act, what the entry says beside it, what was handed out, and the
 /// answer.

@@ -14,7 +14,7 @@ use crate::names::{box_name, desk_name, inlet_name};
 use ds_frame::ReadEnd;
 use ds_inlet::{Conn, Offer, Stale};
 use ds_label::Rule;
-use ds_merge::{Kept, ObjectName, Recorded};
+use ds_merge::{ActorRecord, Kept, ObjectName, Recorded};
 use ds_msg::LocalMessage;
 use ds_script::Actor;
 use ds_share::Receipt;
@@ -61,6 +61,18 @@ impl RecordedConn {
             conn,
             stamp: 0,
             events: Vec::new(alloc),
+        }
+    }
+
+    /// What it recorded: who it is, and its events in order. Their stamps rise. It takes no memory.
+    pub fn into_record(self) -> ActorRecord
+        ensures who { result.who ≡ self.link.conn.who }
+        ensures events { result.events.items ≡ self.link.events }
+        ensures rising { rises stamp_of 0 self.link.events ≡ true }
+    {
+        ActorRecord {
+            who: self.conn.who(),
+            events: self.events,
         }
     }
 

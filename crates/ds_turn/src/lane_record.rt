@@ -14,7 +14,7 @@ ghost use Rattle.ds_turn.specs.LaneTurns.{judged_worker, judge_event, lift_event
 use crate::names::{desk_name, lane_name};
 use ds_base::Keeper;
 use ds_lane::{BodyBatch, LaneEnd, LaneFault};
-use ds_merge::{Kept, ObjectName, Recorded};
+use ds_merge::{ActorRecord, Kept, ObjectName, Recorded};
 use ds_script::Actor;
 use ds_share::{DeskReply, Receipt, TurnFault};
 use ds_wire::Bytes;
@@ -55,6 +55,18 @@ impl RecordedLane {
             end,
             stamp: 0,
             events: Vec::new(alloc),
+        }
+    }
+
+    /// What it recorded: who it is, and its events in order. Their stamps rise. It takes no memory.
+    pub fn into_record(self) -> ActorRecord
+        ensures who { result.who ≡ self.lane.worker.who }
+        ensures events { result.events.items ≡ self.lane.events }
+        ensures rising { rises stamp_of 0 self.lane.events ≡ true }
+    {
+        ActorRecord {
+            who: self.end.who(),
+            events: self.events,
         }
     }
 

@@ -16,7 +16,7 @@ ghost use Rattle.ds_turn.specs.ProcRecords.{HasMemory, IsGoing, fresh_proc, step
 use crate::node::Node;
 use ds_actor::{ProcessAsk, ask_outer, delegated, imported, mapped, refuse, sent, took};
 use ds_label::{Category, Rule};
-use ds_merge::{Kept, ObjectName, Recorded};
+use ds_merge::{ActorRecord, Kept, ObjectName, Recorded};
 use ds_msg::{LocalMessage, Message};
 use ds_script::{Actor, Proc};
 use ds_share::Receipt;
@@ -63,6 +63,37 @@ impl RecordedProc {
             hand: None,
             stamp: 0,
             events: Vec::new(alloc),
+        }
+    }
+
+    /// A process with that judged message in its hand, if there is one, and without events. It takes no memory.
+    pub fn with_hand(
+        alloc: Global,
+        who: Actor,
+        process: Proc,
+        hand: Option<Message>,
+    ) -> RecordedProc
+        ensures { result.proc ≡ record (fresh_proc who process.process) { hand = hand } }
+    {
+        RecordedProc {
+            alloc,
+            who,
+            process,
+            hand,
+            stamp: 0,
+            events: Vec::new(alloc),
+        }
+    }
+
+    /// What it recorded: who it is, and its events in order. Their stamps rise. It takes no memory.
+    pub fn into_record(self) -> ActorRecord
+        ensures who { result.who ≡ self.proc.who }
+        ensures events { result.events.items ≡ self.proc.events }
+        ensures rising { rises stamp_of 0 self.proc.events ≡ true }
+    {
+        ActorRecord {
+            who: self.who,
+            events: self.events,
         }
     }
 

@@ -1,0 +1,6 @@
+use Rattle.std.proofs.Common.{◌≡◌, map, take}
+use Rattle.ds_share.specs.Entries.{desk_spelled}
+use Rattle.ds_share.proofs.desk_history.spelled.Given as goal
+
+abbrev pub invariant-loop-entry : goal.invariant-loop-entry
+invariant-loop-entry l = l.out.items ≡ map desk_spelled (take l.entry-index l.entries)
