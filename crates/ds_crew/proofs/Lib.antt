@@ -1,3 +1,4 @@
 mod Growing
 mod Found
 mod Turns
+mod Names

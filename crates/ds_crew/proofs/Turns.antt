@@ -1,7 +1,7 @@
 -- An exporter's actors may take turns over what its threads share.
-use Rattle.std.proofs.Common.{◌≡◌, ℕ, suc, ◌+◌, ◌<◌, ◌≤◌, Bool, true, false, ◌&&◌, List, [], ◌∷◌, Option, Some, None, length, map, refl, sym, ap, ◌∙◌, subst, arith}
+use Rattle.std.proofs.Common.{◌≡◌, ℕ, suc, ◌+◌, ◌<◌, ◌≤◌, Bool, true, ◌&&◌, List, [], ◌∷◌, Option, Some, None, length, map, refl, sym, ap, ◌∙◌, subst, arith}
 use Rattle.std.specs.Prelude.{◌==◌, ◌^◌, position, is_some, All}
-use Rattle.std.specs.List.{AllByRecursion, AllZip, Any}
+use Rattle.std.specs.List.{AllByRecursion, AllZip}
 use Rattle.std.proofs.lemmas.List.Elements.{All-from_recursion, recursion_from_All, All-head, All-tail}
 use Rattle.std.proofs.lemmas.Bool.Decides.{nat_tests}
 use Rattle.std.proofs.lemmas.Slice.Eq.{bytes_eq-Decides}
@@ -31,12 +31,12 @@ use Rattle.ds_exporter.specs.PlainHosts.{name_of_inlet}
 use Rattle.ds_exporter.proofs.Queues.{position_seen}
 use Rattle.ds_turn.specs.declared.node.Node.{Node}
 use Rattle.ds_turn.specs.declared.node.BoxSeat.{BoxSeat}
-use Rattle.ds_turn.specs.Nodes.{box_site as seat_site, seen_of}
+use Rattle.ds_turn.specs.Nodes.{box_site as seat_site}
 use Rattle.ds_turn.specs.ProcAsks.{HandFits, MayStep}
 use Rattle.ds_turn.specs.ProcRecords.{ProcRecord, RoomyProc}
 use Rattle.ds_turn.specs.LaneRecords.{LaneRecord, RoomyLane}
 use Rattle.ds_turn.specs.ConnRecords.{ConnRecord, RoomyConn, fresh_conn}
-use Rattle.ds_turn.specs.ConnTurns.{HasBox, LeadsTo, place_of}
+use Rattle.ds_turn.specs.ConnTurns.{HasBox, LeadsTo}
 use Rattle.ds_crew.specs.declared.crew.Crew.{Crew}
 use Rattle.ds_crew.specs.Crews.{HasActorsOf, IsNodeOf, IsWorkerOf, MayTakeTurns, begun_lane, begun_proc, begun_procs, lane_in, link_in, proc_in}
 use Rattle.ds_crew.proofs.Found.{found}

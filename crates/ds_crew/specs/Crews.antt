@@ -1,11 +1,8 @@
 -- An exporter's parts as its threads take them: what they share, and its actors.
 use Rattle.std.specs.Prelude.{◌≡◌, ℕ, suc, List, [], ◌∷◌, map, All}
 use Rattle.std.specs.List.{AllZip}
-use Rattle.ds_actor.specs.Sites.{BoxSite}
 use Rattle.ds_cert.specs.declared.lane.LaneCert.{LaneCert}
-use Rattle.ds_model.specs.Scheme.{InletName}
 use Rattle.ds_share.specs.SharedLanes.{IsSameLane}
-use Rattle.ds_inlet.specs.Connections.{Connection}
 use Rattle.ds_exporter.specs.HostStates.{HostLane, HostProcess, HostState}
 use Rattle.ds_exporter.specs.PlainHosts.{name_of_inlet}
 use Rattle.ds_exporter.specs.Sites.{fixed_in}

@@ -1,6 +1,7 @@
 -- The histories of what a host's threads share, as a merge takes them.
-use Rattle.std.specs.Prelude.{◌≡◌, ◌==◌, ℕ, suc, true, List, [], ◌∷◌, ◌++◌, map, All}
+use Rattle.std.specs.Prelude.{◌≡◌, ◌≢◌, ◌==◌, ℕ, suc, true, List, [], ◌∷◌, ◌++◌, map, All}
 use Rattle.std.specs.Bool.{MatchBool}
+use Rattle.std.specs.List.{AllPairs}
 use Rattle.ds_script.specs.Replay.{rises}
 use Rattle.ds_cert.specs.declared.lane.LaneCert.{LaneCert}
 use Rattle.ds_share.specs.declared.entry.SpelledEntry.{SpelledEntry}
@@ -33,6 +34,10 @@ abbrev pub objects_of : Node → List ObjectName
 objects_of n =
     desk_name n.host
     ∷ (names_of_boxes n.host n.boxes.items ++ (names_of_lanes n.host 1 n.lanes.items ++ names_of_inlets n.host 0 n.inlets.items))
+
+-- no two of them have one name
+abbrev pub HaveOwnNames : Node → Type 0
+HaveOwnNames n = AllPairs (λ a b. a ≢ b) (objects_of n)
 
 -- ---- one history
 

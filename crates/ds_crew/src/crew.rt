@@ -2,6 +2,7 @@
 
 ghost use Rattle.std.specs.Prelude.{IfOk};
 ghost use Rattle.ds_crew.specs.Crews.{HasActorsOf, IsNodeOf, MayTakeTurns};
+ghost use Rattle.ds_crew.specs.Histories.{HaveOwnNames};
 
 use crate::actors::{begin_conns, begin_procs};
 use crate::objects::{seat_boxes, seat_inlets, share_lanes};
@@ -25,8 +26,8 @@ pub struct Crew {
 
 impl Crew {
     /// The parts of an exporter. The objects keep what they are and entered; the actors keep what they are and have in hand, with
-    /// nothing recorded and last stamps of 0. Each actor may take turns over what is shared. Nothing is copied but mailboxes' labels
-    /// and lanes' certificates.
+    /// nothing recorded and last stamps of 0. Each actor may take turns over what is shared, and no two objects have one name. Nothing
+    /// is copied but mailboxes' labels and lanes' certificates.
     ///
     /// # Errors
     ///
@@ -35,6 +36,7 @@ impl Crew {
         ensures node { IfOk result (λ crew. IsNodeOf exporter crew.node) }
         ensures actors { IfOk result (HasActorsOf exporter) }
         ensures turns { IfOk result MayTakeTurns }
+        ensures names { IfOk result (λ crew. HaveOwnNames crew.node) }
     {
         let ExporterParts {
             host,

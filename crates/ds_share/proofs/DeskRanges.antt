@@ -1,16 +1,15 @@
 -- The certificates of a desk's history are in the ranges of their formats, since the desk keeps them.
-use Rattle.std.proofs.Common.{◌≡◌, ℕ, suc, ◌<◌, ◌≤◌, true, false, Bool, List, [], ◌∷◌, ◌++◌, Option, Some, None, refl, sym, ap, ◌∙◌, subst, arith}
-use Rattle.std.specs.Prelude.{◌&&◌, ◌==◌, length, if◌then◌else◌, bytes_eq}
-use Rattle.std.specs.List.{All, Any, list_any, slice_index_or}
+use Rattle.std.proofs.Common.{◌≡◌, ℕ, suc, true, false, Bool, List, [], ◌∷◌, ◌++◌, Some, None, refl, sym, subst, arith}
+use Rattle.std.specs.Prelude.{◌&&◌, ◌==◌, if◌then◌else◌, bytes_eq}
+use Rattle.std.specs.List.{All, Any, list_any}
 use Rattle.std.proofs.lemmas.List.Elements.{All-nil, All-cons, All-head}
 use Rattle.std.proofs.lemmas.List.Folds.{Any-from_list_any}
 use Rattle.std.proofs.lemmas.Slice.Eq.{bytes_eq-Decides}
 use Rattle.ds_script.specs.Replay.{onward, replay}
 use Rattle.ds_cert.specs.declared.delegation.Delegation.{Delegation}
 use Rattle.ds_cert.specs.declared.address.Address.{Address}
-use Rattle.ds_cert.specs.declared.cert.Cert.{Cert}
 use Rattle.ds_cert.specs.declared.cert.Cert.TheVariants as certs
-use Rattle.ds_cert.specs.NoDoubles.{same_delegation, same_address, with_delegation, with_address, is_kept, is_kept_address}
+use Rattle.ds_cert.specs.NoDoubles.{same_delegation, same_address}
 use Rattle.ds_cert.specs.Ranges.{AddressRange, AddressTextFits, DelegationRange, SignatureFits}
 use Rattle.ds_label.specs.Names.{same_category}
 use Rattle.ds_map.proofs.Sets.{and_first, and_second}

@@ -1,9 +1,8 @@
 -- The entries of histories, spelled.
-use Rattle.std.proofs.Common.{◌≡◌, ℕ, ◌<◌, ◌≤◌, true, false, Bool, List, [], ◌∷◌, ◌++◌, Option, Some, None, map, refl, sym, ap, ◌∙◌, subst, arith}
-use Rattle.std.specs.Prelude.{◌&&◌, nat_lt, length, if◌then◌else◌, bytes_eq}
-use Rattle.std.specs.List.{All, Any, list_any}
+use Rattle.std.proofs.Common.{◌≡◌, ℕ, true, false, Bool, List, [], ◌∷◌, map, refl, arith}
+use Rattle.std.specs.Prelude.{◌&&◌, nat_lt}
 use Rattle.std.proofs.lemmas.Bool.Decides.{nat_tests}
-use Rattle.ds_script.specs.Replay.{onward, replay, rises}
+use Rattle.ds_script.specs.Replay.{rises}
 use Rattle.ds_share.specs.declared.entry.SpelledEntry.{SpelledEntry}
 use Rattle.ds_share.specs.Entries.{AreRising, stamp_of}
 
