@@ -3,3 +3,4 @@ pub mod Arrivals
 pub mod Nothing
 pub mod Places
 pub mod Hands
+pub mod Entering

@@ -1,7 +1,7 @@
 //! Connections that deliver.
 #![tactic(auto)]
 
-ghost use Rattle.std.specs.Prelude.{◌≡◌, ◌≢◌, ℕ, List, Ok, length, map, slice_get, OnErr, IfOk};
+ghost use Rattle.std.specs.Prelude.{◌≡◌, ◌≢◌, ℕ, List, Ok, length, map, slice_get, OnErr, OnOk, IfOk};
 ghost use Rattle.ds_model.specs.Plan.{HostPlan};
 ghost use Rattle.ds_model.specs.ConnectionStep.{deliver};
 ghost use Rattle.ds_model.specs.Step.{perform_conn};
@@ -9,6 +9,7 @@ ghost use Rattle.ds_scheme.specs.TheScheme.{scheme};
 ghost use Rattle.ds_exporter.specs.Moving.{Moves};
 ghost use Rattle.ds_exporter.specs.PlainHosts.{arrived_at, arrived_of, conn_at, ends_of, host_of, site_of};
 ghost use Rattle.ds_exporter.specs.Stamping.{IsBefore, IsUpTo};
+ghost use Rattle.ds_hosts.specs.Entering.{IfRunning, DeliverEnters};
 ghost use Rattle.ds_hosts.specs.Nodes.{IsEarlier, IsUntil, IsPlanOf, arrived_in, conn_in, conns_of, ends_in, node_of, plain_host};
 
 use crate::node::Node;
@@ -27,6 +28,7 @@ fn deliver_of(exporter: &mut Exporter, stamp: u64, conn: u32) -> Result<Moved, A
     ensures still { result ≡ Ok Moved.Still → exporter.new ≡ exporter.old }
     ensures err { OnErr result (exporter.new ≡ exporter.old) }
     ensures stamps { IsUpTo stamp exporter.new }
+    ensures entered { (link : List ℕ) → OnOk result (DeliverEnters link stamp conn exporter.old exporter.new) }
 {
     if conn as usize >= exporter.conns().len() {
         return Ok(Moved::Still);
@@ -50,6 +52,7 @@ impl Node {
         ensures still { result ≡ Ok Moved.Still → node_of self.new ≡ node_of self.old }
         ensures err { OnErr result (node_of self.new ≡ node_of self.old) }
         ensures stamps { IsUntil stamp (node_of self.new) }
+        ensures entered { (link : List ℕ) → OnOk result (IfRunning (DeliverEnters link stamp conn) (node_of self.old) (node_of self.new)) }
     {
         match self {
             Node::Running(exporter) => deliver_of(exporter, stamp, conn),

@@ -1,13 +1,14 @@
 //! Lanes' workers.
 #![tactic(auto)]
 
-ghost use Rattle.std.specs.Prelude.{◌≡◌, ◌-◌, ◌<◌, Ok, length, map, slice_get, OnErr, IfOk};
+ghost use Rattle.std.specs.Prelude.{◌≡◌, ◌-◌, ◌<◌, Ok, length, map, slice_get, OnErr, OnOk, IfOk};
 ghost use Rattle.ds_model.specs.Plan.{HostPlan};
 ghost use Rattle.ds_model.specs.Step.{step_lane};
 ghost use Rattle.ds_scheme.specs.TheScheme.{scheme};
 ghost use Rattle.ds_exporter.specs.Moving.{Moves};
 ghost use Rattle.ds_exporter.specs.PlainHosts.{host_of, site_of};
 ghost use Rattle.ds_exporter.specs.Stamping.{IsBefore, IsUpTo};
+ghost use Rattle.ds_hosts.specs.Entering.{IfRunning, FrameEnters};
 ghost use Rattle.ds_hosts.specs.Nodes.{IsEarlier, IsUntil, IsPlanOf, SameConns, conns_of, node_of, plain_host};
 
 use crate::node::Node;
@@ -26,6 +27,7 @@ fn frame_of(exporter: &mut Exporter, stamp: u64, lane: u32) -> Result<Moved, All
     ensures still { result ≡ Ok Moved.Still → exporter.new ≡ exporter.old }
     ensures err { OnErr result (exporter.new ≡ exporter.old) }
     ensures stamps { IsUpTo stamp exporter.new }
+    ensures entered { OnOk result (FrameEnters stamp (lane - 1) exporter.old exporter.new) }
 {
     if lane as usize > exporter.lanes().len() {
         return Ok(Moved::Still);
@@ -52,6 +54,7 @@ impl Node {
         ensures still { result ≡ Ok Moved.Still → node_of self.new ≡ node_of self.old }
         ensures err { OnErr result (node_of self.new ≡ node_of self.old) }
         ensures stamps { IsUntil stamp (node_of self.new) }
+        ensures entered { OnOk result (IfRunning (FrameEnters stamp (lane - 1)) (node_of self.old) (node_of self.new)) }
     {
         match self {
             Node::Running(exporter) => frame_of(exporter, stamp, lane.max(1)),

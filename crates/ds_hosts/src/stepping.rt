@@ -1,13 +1,14 @@
 //! Processes.
 #![tactic(auto)]
 
-ghost use Rattle.std.specs.Prelude.{◌≡◌, ℕ, List, Ok, length, slice_get, OnErr, IfOk};
+ghost use Rattle.std.specs.Prelude.{◌≡◌, ℕ, List, Ok, length, slice_get, OnErr, OnOk, IfOk};
 ghost use Rattle.ds_model.specs.Plan.{HostPlan};
 ghost use Rattle.ds_model.specs.Step.{step_proc};
 ghost use Rattle.ds_scheme.specs.TheScheme.{scheme};
 ghost use Rattle.ds_exporter.specs.Moving.{Moves};
 ghost use Rattle.ds_exporter.specs.PlainHosts.{arrived_at, conn_at, host_of, site_of};
 ghost use Rattle.ds_exporter.specs.Stamping.{IsBefore, IsUpTo};
+ghost use Rattle.ds_hosts.specs.Entering.{IfRunning, StepEnters};
 ghost use Rattle.ds_hosts.specs.Nodes.{IsEarlier, IsUntil, IsPlanOf, SameConns, conns_of, node_of, plain_host};
 
 use crate::node::Node;
@@ -27,6 +28,7 @@ fn step_of(exporter: &mut Exporter, stamp: u64, index: u32) -> Result<Moved, All
     ensures still { result ≡ Ok Moved.Still → exporter.new ≡ exporter.old }
     ensures err { OnErr result (exporter.new ≡ exporter.old) }
     ensures stamps { IsUpTo stamp exporter.new }
+    ensures entered { OnOk result (StepEnters stamp index exporter.old exporter.new) }
 {
     if index as usize >= exporter.procs().len() {
         return Ok(Moved::Still);
@@ -53,6 +55,7 @@ impl Node {
         ensures still { result ≡ Ok Moved.Still → node_of self.new ≡ node_of self.old }
         ensures err { OnErr result (node_of self.new ≡ node_of self.old) }
         ensures stamps { IsUntil stamp (node_of self.new) }
+        ensures entered { OnOk result (IfRunning (StepEnters stamp index) (node_of self.old) (node_of self.new)) }
     {
         match self {
             Node::Running(exporter) => step_of(exporter, stamp, index),

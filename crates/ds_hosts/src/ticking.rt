@@ -1,10 +1,11 @@
 //! Clocks.
 #![tactic(auto)]
 
-ghost use Rattle.std.specs.Prelude.{◌≡◌, Ok, length, OnErr, IfOk};
+ghost use Rattle.std.specs.Prelude.{◌≡◌, Ok, length, OnErr, OnOk, IfOk};
 ghost use Rattle.ds_model.specs.Plan.{HostPlan};
 ghost use Rattle.ds_model.specs.Step.{ticked};
 ghost use Rattle.ds_exporter.specs.Moving.{Moves};
+ghost use Rattle.ds_hosts.specs.Entering.{IfRunning, TickEnters};
 ghost use Rattle.ds_hosts.specs.Nodes.{IsEarlier, IsUntil, IsPlanOf, SameConns, conns_of, node_of, plain_host};
 
 use crate::node::Node;
@@ -24,6 +25,7 @@ impl Node {
         ensures still { result ≡ Ok Moved.Still → node_of self.new ≡ node_of self.old }
         ensures err { OnErr result (node_of self.new ≡ node_of self.old) }
         ensures stamps { IsUntil stamp (node_of self.new) }
+        ensures entered { OnOk result (IfRunning (TickEnters stamp to) (node_of self.old) (node_of self.new)) }
     {
         match self {
             Node::Running(exporter) => exporter.tick(stamp, to),
