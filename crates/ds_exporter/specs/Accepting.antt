@@ -41,13 +41,15 @@ Accepted moved before after inlets later = (here : PubKey) (rows : List Category
 -- what a connection that accepts touches of a host with these inlets is this, whatever the rest of the host is
 abbrev pub Touches : Connection → (inlets : List CountedLane) → Access → Type 0
 Touches k inlets access = (here : PubKey) (rows : List Category) (plan : HostPlan) (x : Host) (link : List ℕ) →
-    access_of_conn_ask (inlet_plan plan k) (record x { inlets = map plain_inlet inlets }) (accept scheme (inlet_plan plan k) (conn_of here rows link k) k.arrived) ≡ access
+    access_of_conn_ask (inlet_plan plan k) (record x { inlets = map plain_inlet inlets })
+    (accept scheme (inlet_plan plan k) (conn_of here rows link k) k.arrived) ≡ access
 
 -- each inlet stayed as it was and none is touched, or one of them took a frame's number and is the one that is touched
 abbrev pub IsCounted : (stamp : ℕ) → Connection → (before after : List CountedLane) → Type 0
 IsCounted stamp k before after =
     ((after ≡ before) × Touches k before NoAccess)
-    ⊎ ((place : ℕ) × (number : ℕ) × (after ≡ at place (counted stamp k.who number) before) × Touches k before (number_access place number (slice_get (map plain_inlet before) place)))
+    ⊎ ((place : ℕ) × (number : ℕ) × (after ≡ at place (counted stamp k.who number) before)
+    × Touches k before (number_access place number (slice_get (map plain_inlet before) place)))
 
 -- what a connection keeps of itself when it accepts
 pub record KeepsPassed (before after : Connection) : Type 0 where

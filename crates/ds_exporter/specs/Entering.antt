@@ -31,11 +31,13 @@ frame_access p e = access_of_lane scheme (site_of e) (host_of e) p (slice_get (h
 
 -- the connection at a place that accepts, whose link's stream is this one
 abbrev pub accept_access : (link : List ℕ) → (place : ℕ) → HostState → Access
-accept_access link place e = access_of_conn_ask (site_of e) (host_of e) (accept scheme (site_of e) (conn_at link place e) (arrived_at place e))
+accept_access link place e = access_of_conn_ask (site_of e) (host_of e)
+    (accept scheme (site_of e) (conn_at link place e) (arrived_at place e))
 
 -- and the one that delivers
 abbrev pub deliver_access : (link : List ℕ) → (place : ℕ) → HostState → Access
-deliver_access link place e = access_of_conn_ask (site_of e) (host_of e) (deliver scheme (site_of e) (conn_at link place e) (arrived_at place e))
+deliver_access link place e = access_of_conn_ask (site_of e) (host_of e)
+    (deliver scheme (site_of e) (conn_at link place e) (arrived_at place e))
 
 -- a tick of the clock
 abbrev pub tick_access : (to : ℕ) → HostState → Access
@@ -45,7 +47,8 @@ tick_access to e = access_of_clock (site_of e) e.desk.desk.moment to
 
 -- so many in the one list as in the other, and what is at a place of the one and at that place of the other
 abbrev pub AtEachPlace : {X : Type 0} → (ℕ → X → X → Type 0) → (old new : List X) → Type 0
-AtEachPlace {X} P old new = (length new ≡ length old) × ((place : ℕ) (x y : X) → slice_get old place ≡ Some x → slice_get new place ≡ Some y → P place x y)
+AtEachPlace {X} P old new = (length new ≡ length old)
+    × ((place : ℕ) (x y : X) → slice_get old place ≡ Some x → slice_get new place ≡ Some y → P place x y)
 
 -- HISTORIES, which go on by what this actor enters at this stamp
 
@@ -53,7 +56,8 @@ abbrev pub IsBoxEntryOf : (stamp : ℕ) → Actor → BoxEntry → Type 0
 IsBoxEntryOf stamp who entry = (entry.stamp ≡ stamp) × (entry.who ≡ who)
 
 -- A mailbox's: its entries have the host's own numbers, and by the names of the table they are the plain world's.
-pub record BoxGoesOn (stamp : ℕ) (who : Actor) (here : PubKey) (rows : List Category) (access : Access) (place : ℕ) (a b : HostBox) : Type 0 where
+pub record BoxGoesOn (stamp : ℕ) (who : Actor) (here : PubKey) (rows : List Category) (access : Access) (place : ℕ) (a b : HostBox)
+    : Type 0 where
   pub more : List BoxEntry
   pub history : b.mailbox.history ≡ a.mailbox.history ++ more
   pub own : AllByRecursion (IsBoxEntryOf stamp who) more
@@ -70,14 +74,16 @@ lane_change (Lifted count) = Lifted count
 
 -- a lane's
 abbrev pub LaneGoesOn : (stamp : ℕ) → Actor → Access → (place : ℕ) → (a b : HostLane) → Type 0
-LaneGoesOn stamp who access place a b = b.lane.history ≡ a.lane.history ++ map (lane_entry_of stamp who) (map lane_change (lane_entry place access))
+LaneGoesOn stamp who access place a b = b.lane.history
+    ≡ a.lane.history ++ map (lane_entry_of stamp who) (map lane_change (lane_entry place access))
 
 -- its worker's, which is no shared object: all entries there are its own
 abbrev pub IsWorkerEntryAt : (stamp : ℕ) → WorkerEntry → Type 0
 IsWorkerEntryAt stamp entry = entry.stamp ≡ stamp
 
 abbrev pub WorkerGoesOn : (stamp place : ℕ) → (a b : HostLane) → Type 0
-WorkerGoesOn stamp place a b = (more : List WorkerEntry) × (b.worker.entries ≡ a.worker.entries ++ more) × AllByRecursion (IsWorkerEntryAt stamp) more
+WorkerGoesOn stamp place a b = (more : List WorkerEntry)
+    × (b.worker.entries ≡ a.worker.entries ++ more) × AllByRecursion (IsWorkerEntryAt stamp) more
 
 -- an inlet's
 abbrev pub InletGoesOn : (stamp : ℕ) → Actor → Access → (place : ℕ) → (a b : CountedLane) → Type 0

@@ -169,7 +169,8 @@ impl Exporter {
         ensures still { result ≡ Ok Moved.Still → self.new ≡ self.old }
         ensures err { OnErr result (self.new ≡ self.old) }
         ensures stamps { IsUpTo stamp self.new }
-        ensures entered { (link : List ℕ) → OnOk result ((k : Connection) → slice_get self.old.conns conn ≡ Some k → Enters stamp k.who (accept_access link conn self.old) self.old self.new) }
+        ensures entered { (link : List ℕ) → OnOk result ((k : Connection) → slice_get self.old.conns conn ≡ Some k
+            → Enters stamp k.who (accept_access link conn self.old) self.old self.new) }
     {
         let moved = accept_at(
             &mut self.parts.conns,

@@ -60,7 +60,8 @@ impl Exporter {
         ensures site { site_of self.new ≡ site_of self.old }
         ensures err { OnErr result (self.new ≡ self.old) }
         ensures stamps { IsUpTo stamp self.new }
-        ensures entered { (link : List ℕ) → OnOk result ((k : Connection) → slice_get self.old.conns place ≡ Some k → Enters stamp k.who (deliver_access link place self.old) self.old self.new) }
+        ensures entered { (link : List ℕ) → OnOk result ((k : Connection) → slice_get self.old.conns place ≡ Some k
+            → Enters stamp k.who (deliver_access link place self.old) self.old self.new) }
     {
         put_passed(&mut self.parts.conns, place, &mut self.parts.boxes, stamp)?;
         Ok(())
@@ -81,7 +82,8 @@ impl Exporter {
         ensures site { site_of self.new ≡ site_of self.old }
         ensures err { OnErr result (self.new ≡ self.old) }
         ensures stamps { IsUpTo stamp self.new }
-        ensures entered { (link : List ℕ) → OnOk result ((k : Connection) → slice_get self.old.conns place ≡ Some k → Enters stamp k.who (deliver_access link place self.old) self.old self.new) }
+        ensures entered { (link : List ℕ) → OnOk result ((k : Connection) → slice_get self.old.conns place ≡ Some k
+            → Enters stamp k.who (deliver_access link place self.old) self.old self.new) }
     {
         self.parts.desk.reserve()?;
         let who = who_at(&self.parts.conns, place);
@@ -112,7 +114,8 @@ impl Exporter {
         ensures still { result ≡ Ok Moved.Still → self.new ≡ self.old }
         ensures err { OnErr result (self.new ≡ self.old) }
         ensures stamps { IsUpTo stamp self.new }
-        ensures entered { (link : List ℕ) → OnOk result ((k : Connection) → slice_get self.old.conns conn ≡ Some k → Enters stamp k.who (deliver_access link conn self.old) self.old self.new) }
+        ensures entered { (link : List ℕ) → OnOk result ((k : Connection) → slice_get self.old.conns conn ≡ Some k
+            → Enters stamp k.who (deliver_access link conn self.old) self.old self.new) }
     {
         let place = conn as usize;
         if has_passed(&self.parts.conns, place) {

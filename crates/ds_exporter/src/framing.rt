@@ -166,7 +166,8 @@ impl Exporter {
         ensures still { result ≡ Ok Moved.Still → self.new ≡ self.old }
         ensures err { OnErr result (self.new ≡ self.old) }
         ensures stamps { IsUpTo stamp self.new }
-        ensures entered { OnOk result (Enters stamp (lane_actor self.old.host (lane - 1)) (frame_access (lane - 1) self.old) self.old self.new) }
+        ensures entered { OnOk result
+            (Enters stamp (lane_actor self.old.host (lane - 1)) (frame_access (lane - 1) self.old) self.old self.new) }
         ensures faults { K.faults keeper.old ≤ K.faults keeper.new }
         ensures fault { result ≡ Err CoreFault.KeeperFault → Rose (K.faults keeper.old) (K.faults keeper.new) }
         ensures untouched { result ≡ Err CoreFault.NoMemory → keeper.new ≡ keeper.old }

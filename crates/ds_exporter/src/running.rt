@@ -71,7 +71,8 @@ impl Exporter {
         ensures still { IfOk result (λ ran. ran ≡ Some Moved.Still → self.new ≡ self.old) }
         ensures changed { IfOk result (λ ran. ran ≡ Some Moved.Changed → host_of self.new ≢ host_of self.old) }
         ensures site { OnOk result (site_of self.new ≡ site_of self.old) }
-        ensures entered { IfOk result (λ ran. ran ≢ None → Enters stamp (proc_actor self.old.host place) (step_access place self.old) self.old self.new) }
+        ensures entered { IfOk result (λ ran. ran ≢ None
+            → Enters stamp (proc_actor self.old.host place) (step_access place self.old) self.old self.new) }
         ensures err { OnErr result (self.new ≡ self.old) }
         ensures stamps { IsUpTo stamp self.new }
     {

@@ -24,11 +24,13 @@ FrameEnters stamp p e f = Enters stamp (lane_actor e.host p) (frame_access p e) 
 
 -- the connection at a place that accepts, whose link's stream is this one
 abbrev pub AcceptEnters : (link : List ℕ) → (stamp place : ℕ) → (old new : HostState) → Type 0
-AcceptEnters link stamp place e f = (k : Connection) → slice_get e.conns place ≡ Some k → Enters stamp k.who (accept_access link place e) e f
+AcceptEnters link stamp place e f = (k : Connection) → slice_get e.conns place ≡ Some k
+    → Enters stamp k.who (accept_access link place e) e f
 
 -- and the one that delivers
 abbrev pub DeliverEnters : (link : List ℕ) → (stamp place : ℕ) → (old new : HostState) → Type 0
-DeliverEnters link stamp place e f = (k : Connection) → slice_get e.conns place ≡ Some k → Enters stamp k.who (deliver_access link place e) e f
+DeliverEnters link stamp place e f = (k : Connection) → slice_get e.conns place ≡ Some k
+    → Enters stamp k.who (deliver_access link place e) e f
 
 -- a tick of the clock
 abbrev pub TickEnters : (stamp to : ℕ) → (old new : HostState) → Type 0
