@@ -1,9 +1,8 @@
 -- What arrives at one task.
-use Rattle.std.proofs.Common.{◌≡◌, ℕ, ◌+◌, ◌<◌, ◌≤◌, List, [], ◌∷◌, ◌++◌, drop, length, All, Option, Some, None, slice_get, slice_set, refl, sym, subst, ap, ◌∙◌, arith, length-append, length-drop}
+use Rattle.std.proofs.Common.{◌≡◌, ℕ, ◌+◌, ◌<◌, ◌≤◌, List, [], ◌∷◌, ◌++◌, drop, length, Option, Some, None, slice_get, slice_set, refl, sym, subst, ap, ◌∙◌, arith, length-append, length-drop}
 use Rattle.std.specs.Prelude.{Result, Ok, Err, OnErr, slice_index_or}
 use Rattle.std.proofs.lemmas.List.{append-nil, drop_all, set-get_or}
 use Rattle.std.proofs.lemmas.Option.{slice_get-get_or, slice_get_read}
-use Rattle.ds_inlet.specs.Connections.{Connection, arrived_more}
 use Rattle.ds_turn.specs.declared.node.Node.{Node}
 use Rattle.ds_turn.specs.LaneRecords.{LaneRecord}
 use Rattle.ds_turn.specs.ConnRecords.{ConnRecord}
@@ -12,7 +11,7 @@ use Rattle.ds_worker.specs.declared.task.Task.{Task}
 use Rattle.ds_worker.specs.declared.task.TaskActor.{TaskActor}
 use Rattle.ds_worker.specs.declared.task.TaskActor.TheVariants.{Proc, Lane, Conn}
 use Rattle.ds_worker.specs.Tasks.{MayTurn, MayWork, log_of_actor}
-use Rattle.ds_phases.specs.Arrivals.{ArrivedOne, HasArrived, IsGiven, TookBytes, after_arrival, arrived_at, bytes_left, events_of, lane_in, last_stamp, source_in}
+use Rattle.ds_phases.specs.Arrivals.{ArrivedOne, HasArrived, IsGiven, TookBytes, after_arrival, arrived_at, bytes_left, events_of, lane_in, last_stamp}
 
 -- what was read at a place is there
 pub there : {X : Type 0} (xs : List X) (i : ℕ) (x : X) → i < length xs → x ≡ slice_index_or xs i x → slice_get xs i ≡ Some x

@@ -8,7 +8,6 @@ use Rattle.ds_turn.specs.ConnTurns.{arrive_event}
 use Rattle.ds_worker.specs.declared.task.Task.{Task}
 use Rattle.ds_worker.specs.declared.task.TaskActor.{TaskActor}
 use Rattle.ds_worker.specs.declared.task.TaskActor.TheVariants.{Proc, Lane, Conn}
-use Rattle.ds_worker.specs.Logs.{Log}
 use Rattle.ds_worker.specs.Tasks.{log_of_actor}
 
 -- WHOSE STREAM IS READ
